@@ -1,0 +1,25 @@
+use mathlib.Core.Path.{_≡_, ap, ap₂, _∙_}
+use Prim.Native.Nat.{_<_}
+use native.Mathlib.Omega.{arith}
+use borrow.Author.Needs.{needs}
+use lib.ListN.{length, getD}
+use Rattle.std.proofs.shelf.Tests.{cond-below}
+use Rattle.permutations.specs.Constants.{row}
+use Rattle.permutations.specs.Light.{load-state, store-state, backward-step}
+use Rattle.permutations.specs.Steps.{unstep}
+use Rattle.permutations.proofs.light.unstep_bytes.Needs as need
+
+pub returns : need.returns
+unfolding backward-step
+returns g c =
+    let w = g .W·Width in
+    let i = c .args .i in
+    let s = load-state (w .w) (c .args .state .now) in
+    let below : i < length (w .table) = omega (arith, g .W·Width·met .long) in
+    record {
+      answer = cond-below i (length (w .table)) _ _ below;
+      state =
+          c .store-words .ensures
+          ∙ ap (store-state (w .w)) (c .step-back .ensures ∙ ap₂ (unstep (w .m) (w .u)) (c .constants-of .ensures) (c .load-words-s .ensures .value) ∙ ap (λ m. unstep m (w .u) (getD (w .table) i (row 0 0 0 0)) s) (g .W·Width·met .eight))
+          ∙ cond-below i (length (w .table)) (backward-step (w .w) (w .u) (w .table) i (c .args .state .now)) (c .args .state .now) below;
+    }

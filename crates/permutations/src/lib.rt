@@ -1,0 +1,33 @@
+// The permutations under the cipher: what a permutation is, sLiSCP-light-[192] and -[256], and the bench permutation.
+mod bench;
+mod constants;
+mod known;
+mod light;
+mod permutation;
+mod simeck;
+mod steps;
+mod width;
+
+pub use bench::Bench;
+pub use bench::BenchBijection;
+pub use bench::BenchPermutation;
+pub use bench::BenchStepped;
+pub use bench::BenchSteps;
+pub use known::FirstSteps;
+pub use known::first_steps;
+pub use light::Light192;
+pub use light::Light192Bijection;
+pub use light::Light192Permutation;
+pub use light::Light192Stepped;
+pub use light::Light192Steps;
+pub use light::Light256;
+pub use light::Light256Bijection;
+pub use light::Light256Permutation;
+pub use light::Light256Stepped;
+pub use light::Light256Steps;
+pub use permutation::Bijection;
+pub use permutation::NoSuchStep;
+pub use permutation::Permutation;
+pub use permutation::Stepped;
+pub use permutation::Steps;
+pub use permutation::there_and_back;
