@@ -1,5 +1,6 @@
 -- The box and its inverse undo each other, at every width and number of rounds, and keep to the width. Assumes nothing.
-use mathlib.Core.Path.{_≡_, refl, sym, ap, _∙_}
+use mathlib.Core.Path.{_≡_, refl, sym, ap, ap₂, subst, _∙_}
+use native.Mathlib.Numerals.{add-one}
 use Prim.Native.Nat.{ℕ, zero, suc, _+_, _-_, _*_, _/_, _%_, _^_, _<_, _≤_}
 use native.Mathlib.Nat.{mod-lt, lt-of-le-of-lt, div-le-self}
 use native.Mathlib.Omega.{arith}
@@ -58,8 +59,22 @@ module _ (m : ℕ) (some : 1 ≤ m) (rc : ℕ) where
   unbox-fit zero b h = h
   unbox-fit (suc k) b h = unbox-fit k _ (unround-fit m _ b (gamma-lt m rc k some) h)
 
--- one round of those that are left
-pub unbox-next : (m rc k : ℕ) (b : Subblock) → 0 < k → unbox m rc k b ≡ unbox m rc (k - 1) (unround m (gamma m rc (k - 1)) b)
+-- ---- a turn of the code's loops
+
+-- one round more
+pub box-more : (m rc k g : ℕ) (a x r : Subblock) → 1 ≤ m → (x ≡ box m rc k a) × Fit m x → g ≡ gamma m rc k → r ≡ round m g x → (r ≡ box m rc (k + 1) a) × Fit m r
+unfolding box
+box-more m rc k g a x r some h g-is r-is =
+    (rw add-one (r-is ∙ ap₂ (round m) g-is (h .0)), subst (Fit m) (sym r-is) (round-fit m g x (subst (λ z. z < 2 ^ m) (sym g-is) (gamma-lt m rc k some)) (h .1)))
+
+-- one round less is left
+pub unbox-more : (m rc u k g : ℕ) (a x r : Subblock) → 1 ≤ m → 0 < k → (unbox m rc u a ≡ unbox m rc k x) × Fit m x → g ≡ gamma m rc (k - 1) → r ≡ unround m g x
+    → (unbox m rc u a ≡ unbox m rc (k - 1) r) × Fit m r
 unfolding unbox
-unbox-next m rc zero b h = absurd (omega arith)
-unbox-next m rc (suc k) b h = let e : k ≡ suc k - 1 = omega arith in ap (λ n. unbox m rc n (unround m (gamma m rc n) b)) e
+unbox-more m rc u zero g a x r some left h g-is r-is = absurd (omega arith)
+unbox-more m rc u (suc k) g a x r some left h g-is r-is =
+    let e : suc k - 1 ≡ k = omega arith in
+    let g-at : g ≡ gamma m rc k = g-is ∙ ap (gamma m rc) e in (
+      h .0 ∙ ap (unbox m rc k) (sym (r-is ∙ ap (λ z. unround m z x) g-at)) ∙ ap (λ n. unbox m rc n r) (sym e),
+      subst (Fit m) (sym r-is) (unround-fit m g x (subst (λ z. z < 2 ^ m) (sym g-at) (gamma-lt m rc k some)) (h .1)),
+    )

@@ -40,26 +40,42 @@ fn simeck_unround<W: Width>(b: Subblock, g: u32) -> Subblock
     }
 }
 
-// The Simeck box under the round constant rc.
-pub(crate) fn simeck_box<W: Width>(b: Subblock, rc: u8) -> Subblock
-    requires { ⌜ Fit m b ⌝ }
-    ensures { λ r. ⌜ r ≡ box m rc u b ⌝ }
+// The boxes of a and b under rc0 and rc1, round by round side by side, so that neither waits for the other.
+pub(crate) fn two_boxes<W: Width>(
+    a: Subblock,
+    b: Subblock,
+    rc0: u8,
+    rc1: u8,
+) -> (Subblock, Subblock)
+    requires { ⌜ Fit m a ⌝ ∗ ⌜ Fit m b ⌝ }
+    ensures first { λ r. ⌜ r .0 ≡ box m rc0 u a ⌝ }
+    ensures second { λ r. ⌜ r .1 ≡ box m rc1 u b ⌝ }
 {
-    let mut x = b;
+    let mut x = a;
+    let mut y = b;
     for k in 0..W::rounds() {
-        x = simeck_round::<W>(x, round_constant::<W>(rc, k));
+        x = simeck_round::<W>(x, round_constant::<W>(rc0, k));
+        y = simeck_round::<W>(y, round_constant::<W>(rc1, k));
     }
-    x
+    (x, y)
 }
 
-// The inverse of the box: the rounds undone, the last first.
-pub(crate) fn simeck_unbox<W: Width>(b: Subblock, rc: u8) -> Subblock
-    requires { ⌜ Fit m b ⌝ }
-    ensures { λ r. ⌜ r ≡ unbox m rc u b ⌝ }
+// The inverses of the boxes, side by side: the rounds undone, the last first.
+pub(crate) fn two_unboxes<W: Width>(
+    a: Subblock,
+    b: Subblock,
+    rc0: u8,
+    rc1: u8,
+) -> (Subblock, Subblock)
+    requires { ⌜ Fit m a ⌝ ∗ ⌜ Fit m b ⌝ }
+    ensures first { λ r. ⌜ r .0 ≡ unbox m rc0 u a ⌝ }
+    ensures second { λ r. ⌜ r .1 ≡ unbox m rc1 u b ⌝ }
 {
-    let mut x = b;
+    let mut x = a;
+    let mut y = b;
     for k in (0..W::rounds()).rev() {
-        x = simeck_unround::<W>(x, round_constant::<W>(rc, k));
+        x = simeck_unround::<W>(x, round_constant::<W>(rc0, k));
+        y = simeck_unround::<W>(y, round_constant::<W>(rc1, k));
     }
-    x
+    (x, y)
 }

@@ -3,8 +3,8 @@ ghost use Rattle.permutations.specs.Steps.{xored, ones-but, step, unstep, step
 use crate::constants::STEPS;
 use crate::constants::StepConstants;
 use crate::simeck::Subblock;
-use crate::simeck::simeck_box;
-use crate::simeck::simeck_unbox;
+use crate::simeck::two_boxes;
+use crate::simeck::two_unboxes;
 use crate::width::Width;
 
 // The state in words.
@@ -40,8 +40,7 @@ pub(crate) fn step_forward<W: Width>(s: State, k: StepConstants) -> State
     requires { ⌜ Fits-in m s ⌝ }
     ensures { λ r. ⌜ r ≡ step m u k s ⌝ }
 {
-    let b1 = simeck_box::<W>(s.s1, k.rc0);
-    let b3 = simeck_box::<W>(s.s3, k.rc1);
+    let (b1, b3) = two_boxes::<W>(s.s1, s.s3, k.rc0, k.rc1);
     State {
         s0: b1,
         s1: xor_blocks(xor_blocks(s.s2, b3), step_constant::<W>(k.sc1)),
@@ -54,11 +53,12 @@ pub(crate) fn step_back<W: Width>(s: State, k: StepConstants) -> State
     requires { ⌜ Fits-in m s ⌝ }
     ensures { λ r. ⌜ r ≡ unstep m u k s ⌝ }
 {
+    let (s1, s3) = two_unboxes::<W>(s.s0, s.s2, k.rc0, k.rc1);
     State {
         s0: xor_blocks(xor_blocks(s.s3, s.s0), step_constant::<W>(k.sc0)),
-        s1: simeck_unbox::<W>(s.s0, k.rc0),
+        s1,
         s2: xor_blocks(xor_blocks(s.s1, s.s2), step_constant::<W>(k.sc1)),
-        s3: simeck_unbox::<W>(s.s2, k.rc1),
+        s3,
     }
 }
 
