@@ -55,7 +55,7 @@ pub(crate) fn known<const B: usize>(state: [u8; B])
     ensures { λ _. ⌜ Bytes B (state .entry) ⌝ }
 {}
 
-// Forward and back, then back and forward: for every permutation each undoes the other, and the state stays.
+// Forward and then back, which leaves the state as it was; for every permutation each undoes the other on every state.
 pub fn there_and_back<const B: usize, P: Permutation<B>>(state: &mut [u8; B])
     ensures stays { λ _. ⌜ now (state .exit) ≡ now (state .entry) ⌝ }
     ensures undo { λ _. ⌜ Undo B (P·Bijection .meaning) ⌝ }
@@ -64,6 +64,4 @@ pub fn there_and_back<const B: usize, P: Permutation<B>>(state: &mut [u8; B])
     P::sized();
     P::forward(state);
     P::back(state);
-    P::back(state);
-    P::forward(state);
 }
