@@ -4,9 +4,7 @@ use mathlib.Core.List.{List, [], _∷_, _++_, append-nil}
 use borrow.Rule.Slice.PartMut.{putMid}
 use Rattle.std.proofs.shelf.Lists.{take-all, drop-all}
 use Prim.Native.Nat.{ℕ, zero, suc, _+_, _-_, _*_, _<_, _≤_, _^_, min}
-use native.Mathlib.Nat.{le-of-suc-le-suc}
 use native.Mathlib.Omega.{arith}
-use lib.Bits.{bitXor, xor-lt}
 use lib.ListN.{length, getD, take, drop, take-append-drop, length-append, length-take, length-drop}
 use lib.Seq.{take-at, drop-at, take-take, take-append-le}
 use Rattle.std.specs.shelf.Lists.{All}
@@ -15,33 +13,7 @@ use Rattle.permutations.specs.Permutation.{Bytes, Bijective, Walks, stepped, u
 use Rattle.permutations.specs.Bench.{forward, backward, bench, bench-walk}
 use Rattle.permutations.specs.Bytes.{xors}
 use Rattle.permutations.proofs.Words.{Byte}
-use Rattle.permutations.proofs.Xors.{xor-off}
-
-pub length-xors : (xs ys : List ℕ) → length (xors xs ys) ≡ min (length xs) (length ys)
-unfolding xors
-length-xors [] ys = omega arith
-length-xors (x ∷ xs) [] = omega arith
-length-xors (x ∷ xs) (y ∷ ys) = ap suc (length-xors xs ys) ∙ omega arith
-
-xors-bytes : (xs ys : List ℕ) → All Byte xs → All Byte ys → All Byte (xors xs ys)
-unfolding xors
-xors-bytes [] ys h k = tt
-xors-bytes (x ∷ xs) [] h k = tt
-xors-bytes (x ∷ xs) (y ∷ ys) h k = (xor-lt 8 x y (h .0) (k .0), xors-bytes xs ys (h .1) (k .1))
-
-xors-off : (xs ys : List ℕ) → length xs ≤ length ys → xors (xors xs ys) ys ≡ xs
-unfolding xors
-xors-off [] ys h = refl
-xors-off (x ∷ xs) [] h = absurd (omega arith)
-xors-off (x ∷ xs) (y ∷ ys) h = ap₂ (λ a b. a ∷ b) (xor-off x y) (xors-off xs ys (le-of-suc-le-suc h))
-
--- one byte more
-pub xors-push : (xs ys : List ℕ) (i : ℕ) → i < length xs → i < length ys → xors (take (suc i) xs) (take (suc i) ys) ≡ xors (take i xs) (take i ys) ++ (bitXor (getD xs i 0) (getD ys i 0) ∷ [])
-unfolding xors
-xors-push [] ys i h k = absurd (omega arith)
-xors-push (x ∷ xs) [] i h k = absurd (omega arith)
-xors-push (x ∷ xs) (y ∷ ys) zero h k = refl
-xors-push (x ∷ xs) (y ∷ ys) (suc i) h k = ap (λ z. bitXor x y ∷ z) (xors-push xs ys i (le-of-suc-le-suc h) (le-of-suc-le-suc k))
+use Rattle.permutations.proofs.Xors.{length-xors, xors-bytes, xors-off}
 
 module _ (s : List ℕ) (b : Bytes 32 s) where
   first : length (take 8 s) ≡ 8
@@ -89,7 +61,7 @@ module _ (s : List ℕ) (b : Bytes 32 s) where
       ∙ take-append-drop 8 s
 
 pub bijective : Bijective bench
-bijective = record { most = omega arith; forward-bytes = forward-bytes; back-bytes = backward-bytes; back-forward = backward-forward; forward-back = forward-backward }
+bijective = record { most = omega arith; forward-bytes = forward-bytes; back-bytes = backward-bytes; undo = record { back-forward = backward-forward; forward-back = forward-backward } }
 
 -- one step is all of it
 pub walks : Walks bench bench-walk

@@ -7,8 +7,7 @@ use native.Mathlib.Omega.{arith}
 use lib.Bits.{bitAnd, bitOr, bitXor, or-lt, xor-lt, and-le-r}
 use lib.Pow.{pow-pos, pow-mono}
 use Rattle.permutations.specs.declared.simeck.Subblock.{Subblock}
-use Rattle.permutations.specs.Simeck.{block, turned, mixed, gamma, round, unround, box, unbox}
-use Rattle.permutations.specs.Simeck.{Fit}
+use Rattle.permutations.specs.Simeck.{block, turned, mixed, gamma, round, unround, box, unbox, Fit}
 use Rattle.permutations.proofs.Xors.{xor-round}
 
 pub unround-round : (m g : ℕ) (b : Subblock) → unround m g (round m g b) ≡ b

@@ -15,10 +15,9 @@ use Rattle.permutations.specs.declared.steps.State.{State}
 use Rattle.permutations.specs.declared.constants.StepConstants.{StepConstants}
 use Rattle.permutations.specs.Permutation.{Bytes, Bijective, Walks, stepped, unstepped}
 use Rattle.permutations.specs.Bytes.{load, store, loads, stores}
-use Rattle.permutations.specs.Steps.{Small, step, unstep, steps, unsteps}
+use Rattle.permutations.specs.Steps.{Small, step, unstep, steps, unsteps, Fits-in}
 use Rattle.permutations.specs.Light.{words, of-words, load-state, store-state, forward, backward, forward-step, backward-step, light, light-walk}
 use Rattle.permutations.specs.Constants.{row}
-use Rattle.permutations.specs.Steps.{Fits-in}
 use Rattle.permutations.proofs.Words.{Byte, loads-stores, stores-loads, loads-lt, length-loads, length-stores, stores-bytes}
 use Rattle.permutations.proofs.Walking.{step-fit, unstep-fit, steps-fit, unsteps-fit, unstep-step, step-unstep, unsteps-steps, steps-unsteps, steps-more, unsteps-push}
 
@@ -84,8 +83,7 @@ module _ (w : ℕ) where
       most = omega arith;
       forward-bytes = λ s b. stored (steps (8 * w) u ks (load-state w s));
       back-bytes = λ s b. stored (unsteps (8 * w) u ks (load-state w s));
-      back-forward = backward-forward;
-      forward-back = forward-backward;
+      undo = record { back-forward = backward-forward; forward-back = forward-backward };
     }
 
     -- ---- one step at a time

@@ -1,8 +1,16 @@
 -- A step and its inverse undo each other, and so do the steps of a table. Assumes nothing.
 use mathlib.Core.Path.{_≡_, refl, sym, ap, _∙_}
 use mathlib.Core.List.{List, [], _∷_, _++_}
+use mathlib.Core.Bool.{Bool, true, false, cond}
+use lib.Dec.{ltb}
 use lib.ListN.{length, getD, take, drop}
+use Rattle.std.specs.declared.result.Result.{Result}
+use Rattle.std.specs.declared.result.Result.the-variants.{Ok, Err}
+use Rattle.permutations.specs.declared.permutation.NoSuchStep.{NoSuchStep}
+use Rattle.permutations.specs.Constants.{row}
+use Rattle.permutations.specs.Light.{row-at}
 use Rattle.std.proofs.shelf.Lists.{take-more, drop-more}
+use Rattle.std.proofs.shelf.Tests.{ltb-true}
 use Prim.Native.Nat.{ℕ, zero, suc, _+_, _-_, _*_, _/_, _%_, _^_, _<_, _≤_}
 use native.Mathlib.Omega.{arith}
 use lib.Bits.{bitXor, xor-lt}
@@ -11,10 +19,8 @@ use Rattle.std.specs.shelf.Lists.{All}
 use Rattle.permutations.specs.declared.simeck.Subblock.{Subblock}
 use Rattle.permutations.specs.declared.steps.State.{State}
 use Rattle.permutations.specs.declared.constants.StepConstants.{StepConstants}
-use Rattle.permutations.specs.Simeck.{block, box, unbox}
-use Rattle.permutations.specs.Steps.{xored, ones-but, step, unstep, steps, unsteps, Small}
-use Rattle.permutations.specs.Steps.{Fits-in}
-use Rattle.permutations.specs.Simeck.{Fit}
+use Rattle.permutations.specs.Simeck.{block, box, unbox, Fit}
+use Rattle.permutations.specs.Steps.{xored, ones-but, step, unstep, steps, unsteps, Small, Fits-in}
 use Rattle.permutations.proofs.Xors.{xor-mix}
 use Rattle.permutations.proofs.Boxes.{unbox-box, box-unbox, box-fit, unbox-fit}
 
@@ -112,3 +118,13 @@ unfolding unsteps
 unsteps-more m u ks i d s h l =
     let e : i - 1 + 1 ≡ i = omega arith in
     ap (λ z. unsteps m u z s) (drop-more ks (i - 1) d (omega arith) ∙ ap (λ n. getD ks (i - 1) d ∷ drop n ks) e)
+
+-- ---- the row of a step
+
+ok-row : (b : Bool) (k x : StepConstants) (y : NoSuchStep) → _≡_ {A = Result StepConstants NoSuchStep} (Ok k) (cond b (Ok x) (Err y)) → (b ≡ true) × (k ≡ x)
+ok-row true k x y e = (refl, cc)
+ok-row false k x y e = let z : _≡_ {A = ℕ} 0 1 = cc in absurd (omega arith)
+
+-- where there is one, it is the table's
+pub row-found : (ks : List StepConstants) (i : ℕ) (k : StepConstants) → Ok k ≡ row-at ks i → (i < length ks) × (k ≡ getD ks i (row 0 0 0 0))
+row-found ks i k e = let x = ok-row (ltb i (length ks)) k (getD ks i (row 0 0 0 0)) (record {}) e in (ltb-true i (length ks) (x .0), x .1)

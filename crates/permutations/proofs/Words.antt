@@ -8,7 +8,7 @@ use lib.Arith.{digits-lt, digits-div, mod-mul}
 use lib.ListN.{length, getD, take, drop, length-append, length-take, length-drop, take-append-drop}
 use lib.Seq.{take-at, drop-at, drop-drop}
 use Rattle.std.specs.shelf.Lists.{All}
-use Rattle.std.proofs.shelf.Elements.{all-append}
+use Rattle.std.proofs.shelf.Elements.{all-append, all-take, all-drop}
 use native.Mathlib.Numerals.{add-one}
 use borrow.Rule.Slice.PartMut.{putMid}
 use Rattle.std.proofs.shelf.Parts.{take-putMid}
@@ -85,16 +85,6 @@ loads-stores w (x ∷ xs) h =
     ap₂ (λ (a b : List ℕ). load a ∷ loads w (length xs) b) (take-at (store w x) (stores w xs) w (length-store w x)) (drop-at (store w x) (stores w xs) w (length-store w x))
     ∙ ap₂ (λ a b. a ∷ b) (load-store w x ∙ mod-eq-of-lt (h .0)) (loads-stores w xs (h .1))
 
-all-take : (n : ℕ) (s : List ℕ) → All Byte s → All Byte (take n s)
-all-take zero s h = tt
-all-take (suc n) [] h = tt
-all-take (suc n) (x ∷ xs) h = (h .0, all-take n xs (h .1))
-
-all-drop : (n : ℕ) (s : List ℕ) → All Byte s → All Byte (drop n s)
-all-drop zero s h = h
-all-drop (suc n) [] h = tt
-all-drop (suc n) (x ∷ xs) h = all-drop n xs (h .1)
-
 front : (w n : ℕ) (s : List ℕ) → length s ≡ w * suc n → length (take w s) ≡ w
 front w n s e = length-take w s ∙ omega (arith, mul-suc w n)
 
@@ -105,14 +95,14 @@ pub loads-lt : (w n : ℕ) (s : List ℕ) → length s ≡ w * n → All Byte s 
 unfolding loads
 loads-lt w zero s e h = tt
 loads-lt w (suc n) s e h =
-    (subst (λ z. load (take w s) < 256 ^ z) (front w n s e) (load-lt (take w s) (all-take w s h)), loads-lt w n (drop w s) (rest w n s e) (all-drop w s h))
+    (subst (λ z. load (take w s) < 256 ^ z) (front w n s e) (load-lt (take w s) (all-take Byte w s h)), loads-lt w n (drop w s) (rest w n s e) (all-drop Byte w s h))
 
 pub stores-loads : (w n : ℕ) (s : List ℕ) → length s ≡ w * n → All Byte s → stores w (loads w n s) ≡ s
 unfolding loads stores
 stores-loads w zero s e h = sym (nil-from-length s (e ∙ mul-zero w))
 stores-loads w (suc n) s e h =
-    let one : store w (load (take w s)) ≡ take w s = subst (λ z. store z (load (take w s)) ≡ take w s) (front w n s e) (store-load (take w s) (all-take w s h)) in
-    ap₂ (λ a b. a ++ b) one (stores-loads w n (drop w s) (rest w n s e) (all-drop w s h)) ∙ take-append-drop w s
+    let one : store w (load (take w s)) ≡ take w s = subst (λ z. store z (load (take w s)) ≡ take w s) (front w n s e) (store-load (take w s) (all-take Byte w s h)) in
+    ap₂ (λ a b. a ++ b) one (stores-loads w n (drop w s) (rest w n s e) (all-drop Byte w s h)) ∙ take-append-drop w s
 
 -- ---- as the code has it
 

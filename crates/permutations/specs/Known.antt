@@ -2,7 +2,7 @@
 use mathlib.Core.List.{List, [], _∷_}
 use mathlib.Core.Path.{_≡_}
 use Prim.Native.Nat.{ℕ}
-use lib.ListN.{replicate, take}
+use lib.ListN.{replicate}
 use Rattle.permutations.specs.Light.{walk-192, walk-256}
 
 -- FFFF9AFFFFFC 0000640000D5 FFFF9BFFFFFC 0000650000F4
@@ -14,9 +14,14 @@ first-192 =
     ∷ 0x00 ∷ 0x00 ∷ 0x65 ∷ 0x00 ∷ 0x00 ∷ 0xF4
     ∷ []
 
--- the first subblock: 00000C6F00000426
+-- 00000C6F00000426 FFFFE3C3FFFFF348 00001C3C00000C2C FFFFF390FFFFFB2E
 abbrev pub first-256 : List ℕ
-first-256 = 0x00 ∷ 0x00 ∷ 0x0C ∷ 0x6F ∷ 0x00 ∷ 0x00 ∷ 0x04 ∷ 0x26 ∷ []
+first-256 =
+    0x00 ∷ 0x00 ∷ 0x0C ∷ 0x6F ∷ 0x00 ∷ 0x00 ∷ 0x04 ∷ 0x26
+    ∷ 0xFF ∷ 0xFF ∷ 0xE3 ∷ 0xC3 ∷ 0xFF ∷ 0xFF ∷ 0xF3 ∷ 0x48
+    ∷ 0x00 ∷ 0x00 ∷ 0x1C ∷ 0x3C ∷ 0x00 ∷ 0x00 ∷ 0x0C ∷ 0x2C
+    ∷ 0xFF ∷ 0xFF ∷ 0xF3 ∷ 0x90 ∷ 0xFF ∷ 0xFF ∷ 0xFB ∷ 0x2E
+    ∷ []
 
 abbrev pub Known-states : Type 0
-Known-states = (walk-192 .step 0 (replicate 24 0) ≡ first-192) × (take 8 (walk-256 .step 0 (replicate 32 0)) ≡ first-256)
+Known-states = (walk-192 .step 0 (replicate 24 0) ≡ first-192) × (walk-256 .step 0 (replicate 32 0) ≡ first-256)

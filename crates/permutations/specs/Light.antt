@@ -1,7 +1,12 @@
 -- sLiSCP-light on bytes: words of w bytes, boxes of u rounds, a table of constants. Assumes nothing.
+use mathlib.Core.Bool.{cond}
 use mathlib.Core.List.{List, [], _∷_}
 use Prim.Native.Nat.{ℕ, _*_}
+use lib.Dec.{ltb}
 use lib.ListN.{length, getD}
+use Rattle.std.specs.declared.result.Result.{Result}
+use Rattle.std.specs.declared.result.Result.the-variants.{Ok, Err}
+use Rattle.permutations.specs.declared.permutation.NoSuchStep.{NoSuchStep}
 use Rattle.permutations.specs.declared.constants.StepConstants.{StepConstants}
 use Rattle.permutations.specs.declared.steps.State.{State}
 use Rattle.permutations.specs.Bytes.{loads, stores}
@@ -35,6 +40,10 @@ forward w u ks s = store-state w (steps (8 * w) u ks (load-state w s))
 
 unfoldable pub backward : ℕ → ℕ → List StepConstants → List ℕ → List ℕ
 backward w u ks s = store-state w (unsteps (8 * w) u ks (load-state w s))
+
+-- the constants of step i, if there is one
+abbrev pub row-at : List StepConstants → ℕ → Result StepConstants NoSuchStep
+row-at ks i = cond (ltb i (length ks)) (Ok (getD ks i (row 0 0 0 0))) (Err (record {}))
 
 -- step i of a table, and step i undone
 unfoldable pub forward-step : ℕ → ℕ → List StepConstants → ℕ → List ℕ → List ℕ

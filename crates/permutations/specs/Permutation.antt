@@ -21,17 +21,17 @@ pub record Perm : Type 0 where
   pub forward : List ℕ → List ℕ
   pub back : List ℕ → List ℕ
 
--- states of at most 64 bytes, on which each function undoes the other
+-- on every state of b bytes each function undoes the other
+pub record Undo (b : ℕ) (p : Perm) : Type 0 where
+  pub back-forward : (s : List ℕ) → Bytes b s → p .back (p .forward s) ≡ s
+  pub forward-back : (s : List ℕ) → Bytes b s → p .forward (p .back s) ≡ s
+
+-- states of at most 64 bytes, which each function keeps, and on which each undoes the other
 pub record Bijective (p : Perm) : Type 0 where
   pub most : p .size ≤ 64
   pub forward-bytes : (s : List ℕ) → Bytes (p .size) s → Bytes (p .size) (p .forward s)
   pub back-bytes : (s : List ℕ) → Bytes (p .size) s → Bytes (p .size) (p .back s)
-  pub back-forward : (s : List ℕ) → Bytes (p .size) s → p .back (p .forward s) ≡ s
-  pub forward-back : (s : List ℕ) → Bytes (p .size) s → p .forward (p .back s) ≡ s
-
--- each undoes the other on every state of b bytes
-abbrev pub Undo : ℕ → Perm → Type 0
-Undo b p = (s : List ℕ) → Bytes b s → (p .back (p .forward s) ≡ s) × (p .forward (p .back s) ≡ s)
+  pub undo : Undo (p .size) p
 
 -- steps 0 to count - 1, and how each is undone
 pub record Walk : Type 0 where
@@ -49,7 +49,7 @@ unfoldable pub unstepped : Walk → ℕ → List ℕ → List ℕ
 unstepped w zero s = s
 unstepped w (suc n) s = unstepped w n (w .unstep n s)
 
--- a permutation made of steps: forward takes all of them, back undoes all of them, and each undoes the other
+-- a permutation made of steps: forward takes all of them, the first first; back undoes all of them, the last first; each step and its inverse undo each other
 pub record Walks (p : Perm) (w : Walk) : Type 0 where
   pub forward-steps : (s : List ℕ) → Bytes (p .size) s → p .forward s ≡ stepped w (w .count) s
   pub back-unsteps : (s : List ℕ) → Bytes (p .size) s → p .back s ≡ unstepped w (w .count) s

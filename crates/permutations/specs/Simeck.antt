@@ -15,7 +15,7 @@ pub record Fit (m : ℕ) (b : Subblock) : Type 0 where
 unfoldable pub turned : ℕ → ℕ → ℕ → ℕ
 turned m i x = bitOr (x * 2 ^ i % 2 ^ m) (x / 2 ^ (m - i))
 
--- (L5(x) and x) xor L1(x)
+-- x turned by 5 and x, xor x turned by 1
 abbrev pub mixed : ℕ → ℕ → ℕ
 mixed m x = bitXor (bitAnd (turned m 5 x) x) (turned m 1 x)
 

@@ -12,7 +12,7 @@ pub(crate) const STEPS: usize = 18;
 
 // sLiSCP-light-[192]
 #[rattlefmt::skip]
-pub(crate) const CONSTANTS_192: [StepConstants; STEPS] = [
+pub(crate) static CONSTANTS_192: [StepConstants; STEPS] = [
     StepConstants { rc0: 0x07, rc1: 0x27, sc0: 0x08, sc1: 0x29 },
     StepConstants { rc0: 0x04, rc1: 0x34, sc0: 0x0c, sc1: 0x1d },
     StepConstants { rc0: 0x06, rc1: 0x2e, sc0: 0x0a, sc1: 0x33 },
@@ -35,7 +35,7 @@ pub(crate) const CONSTANTS_192: [StepConstants; STEPS] = [
 
 // sLiSCP-light-[256]
 #[rattlefmt::skip]
-pub(crate) const CONSTANTS_256: [StepConstants; STEPS] = [
+pub(crate) static CONSTANTS_256: [StepConstants; STEPS] = [
     StepConstants { rc0: 0x0f, rc1: 0x47, sc0: 0x08, sc1: 0x64 },
     StepConstants { rc0: 0x04, rc1: 0xb2, sc0: 0x86, sc1: 0x6b },
     StepConstants { rc0: 0x43, rc1: 0xb5, sc0: 0xe2, sc1: 0x6f },

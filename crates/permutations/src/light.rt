@@ -3,10 +3,13 @@ ghost use mathlib.Core.Bool.{cond};
 ghost use mathlib.Core.Path.{_≡_};
 ghost use lib.ListN.{length, getD};
 ghost use Rattle.permutations.specs.Bytes.{loads};
-ghost use Rattle.permutations.specs.Light.{load-state, store-state, forward, backward, forward-step, backward-step, light-walk, light-192, light-256, walk-192, walk-256};
+ghost use Rattle.permutations.specs.Light.{load-state, store-state, forward, backward, forward-step, backward-step, light-walk, row-at, light-192, light-256, walk-192, walk-256};
 ghost use Rattle.permutations.specs.Permutation.{step-answer, step-state};
 ghost use Rattle.permutations.specs.Steps.{Fits-in};
+use crate::constants::CONSTANTS_192;
+use crate::constants::CONSTANTS_256;
 use crate::constants::STEPS;
+use crate::constants::StepConstants;
 use crate::permutation::Bijection;
 use crate::permutation::NoSuchStep;
 use crate::permutation::Permutation;
@@ -95,16 +98,24 @@ fn back_bytes<W: Width>(state: &mut [u8])
     store_words::<W>(all_back::<W>(s), state);
 }
 
+// The constants of step i, if there is one.
+fn constants_at<W: Width>(i: usize) -> Result<StepConstants, NoSuchStep>
+    ensures { λ r. ⌜ r ≡ row-at table i ⌝ }
+{
+    if i >= STEPS {
+        return Err(NoSuchStep);
+    }
+    Ok(W::constants_of(i))
+}
+
 fn step_bytes<W: Width>(state: &mut [u8], i: usize) -> Result<(), NoSuchStep>
     requires { ⌜ length (now state) ≡ w * 8 ⌝ }
     ensures answer { λ r. ⌜ r ≡ step-answer (light-walk w u table) i ⌝ }
     ensures state { λ _. ⌜ now (state .exit) ≡ step-state (light-walk w u table) (forward-step w u table) i (now (state .entry)) ⌝ }
 {
-    if i >= STEPS {
-        return Err(NoSuchStep);
-    }
+    let constants = constants_at::<W>(i)?;
     let s = load_words::<W>(state);
-    store_words::<W>(step_forward::<W>(s, W::constants_of(i)), state);
+    store_words::<W>(step_forward::<W>(s, constants), state);
     Ok(())
 }
 
@@ -113,11 +124,9 @@ fn unstep_bytes<W: Width>(state: &mut [u8], i: usize) -> Result<(), NoSuchStep>
     ensures answer { λ r. ⌜ r ≡ step-answer (light-walk w u table) i ⌝ }
     ensures state { λ _. ⌜ now (state .exit) ≡ step-state (light-walk w u table) (backward-step w u table) i (now (state .entry)) ⌝ }
 {
-    if i >= STEPS {
-        return Err(NoSuchStep);
-    }
+    let constants = constants_at::<W>(i)?;
     let s = load_words::<W>(state);
-    store_words::<W>(step_back::<W>(s, W::constants_of(i)), state);
+    store_words::<W>(step_back::<W>(s, constants), state);
     Ok(())
 }
 
@@ -147,7 +156,7 @@ pub impl Steps for Light192 as Light192Steps {
 
 pub impl Stepped<24> for Light192 as Light192Stepped {
     fn steps() -> usize {
-        STEPS
+        CONSTANTS_192.len()
     }
 
     fn step(state: &mut [u8; 24], i: usize) -> Result<(), NoSuchStep> {
@@ -185,7 +194,7 @@ pub impl Steps for Light256 as Light256Steps {
 
 pub impl Stepped<32> for Light256 as Light256Stepped {
     fn steps() -> usize {
-        STEPS
+        CONSTANTS_256.len()
     }
 
     fn step(state: &mut [u8; 32], i: usize) -> Result<(), NoSuchStep> {

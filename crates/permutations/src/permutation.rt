@@ -22,7 +22,7 @@ pub trait Permutation<const B: usize>: Bijection {
         ensures { λ _. ⌜ now (state .exit) ≡ Self·Bijection .meaning .back (now (state .entry)) ⌝ };
 }
 
-// What its steps mean: forward is all of them in order, and back undoes them from the last to the first.
+// What the steps of a permutation mean: forward is all of them in order, and back undoes them from the last to the first.
 pub trait Steps: Bijection {
     ghost walk: { Walk };
 
@@ -51,17 +51,20 @@ pub trait Stepped<const B: usize>: Permutation<B> + Steps {
 }
 
 // An array of bytes holds bytes: generic code calls this to know it.
-pub(crate) fn known<const B: usize>(state: [u8; B])
+pub(crate) fn holds_bytes<const B: usize>(state: [u8; B])
     ensures { λ _. ⌜ Bytes B (state .entry) ⌝ }
 {}
 
-// Forward and then back, which leaves the state as it was; for every permutation each undoes the other on every state.
-pub fn there_and_back<const B: usize, P: Permutation<B>>(state: &mut [u8; B])
+// Forward, whose state is the answer, and then back, which leaves the state as it was. For every permutation each undoes the other on every state.
+pub fn there_and_back<const B: usize, P: Permutation<B>>(state: &mut [u8; B]) -> [u8; B]
+    ensures there { λ r. ⌜ r ≡ P·Bijection .meaning .forward (now (state .entry)) ⌝ }
     ensures stays { λ _. ⌜ now (state .exit) ≡ now (state .entry) ⌝ }
     ensures undo { λ _. ⌜ Undo B (P·Bijection .meaning) ⌝ }
 {
-    known(*state);
+    holds_bytes(*state);
     P::sized();
     P::forward(state);
+    let there = *state;
     P::back(state);
+    there
 }

@@ -10,8 +10,8 @@ pub struct Subblock {
     pub right: u32,
 }
 
-// All ones but for the lowest bit, which is bit k of the round constant.
-fn round_constant<W: Width>(rc: u8, k: u32) -> u32
+// What round k xors in: all ones but for the lowest bit, which is bit k of the round constant.
+fn round_word<W: Width>(rc: u8, k: u32) -> u32
     requires { ⌜ k < 8 ⌝ }
     ensures { λ r. ⌜ r ≡ gamma m rc k ⌝ }
 {
@@ -54,8 +54,8 @@ pub(crate) fn two_boxes<W: Width>(
     let mut x = a;
     let mut y = b;
     for k in 0..W::rounds() {
-        x = simeck_round::<W>(x, round_constant::<W>(rc0, k));
-        y = simeck_round::<W>(y, round_constant::<W>(rc1, k));
+        x = simeck_round::<W>(x, round_word::<W>(rc0, k));
+        y = simeck_round::<W>(y, round_word::<W>(rc1, k));
     }
     (x, y)
 }
@@ -74,8 +74,8 @@ pub(crate) fn two_unboxes<W: Width>(
     let mut x = a;
     let mut y = b;
     for k in (0..W::rounds()).rev() {
-        x = simeck_unround::<W>(x, round_constant::<W>(rc0, k));
-        y = simeck_unround::<W>(y, round_constant::<W>(rc1, k));
+        x = simeck_unround::<W>(x, round_word::<W>(rc0, k));
+        y = simeck_unround::<W>(y, round_word::<W>(rc1, k));
     }
     (x, y)
 }

@@ -25,8 +25,8 @@ fn xor_blocks(a: Subblock, b: Subblock) -> Subblock
     }
 }
 
-// All ones but for the last byte, which is the step constant.
-fn step_constant<W: Width>(sc: u8) -> Subblock
+// What a step xors in: all ones but for the last byte, which is the step constant.
+fn step_block<W: Width>(sc: u8) -> Subblock
     ensures { λ r. ⌜ r ≡ ones-but m sc ⌝ }
 {
     let ones = W::ones();
@@ -43,9 +43,9 @@ pub(crate) fn step_forward<W: Width>(s: State, k: StepConstants) -> State
     let (b1, b3) = two_boxes::<W>(s.s1, s.s3, k.rc0, k.rc1);
     State {
         s0: b1,
-        s1: xor_blocks(xor_blocks(s.s2, b3), step_constant::<W>(k.sc1)),
+        s1: xor_blocks(xor_blocks(s.s2, b3), step_block::<W>(k.sc1)),
         s2: b3,
-        s3: xor_blocks(xor_blocks(s.s0, b1), step_constant::<W>(k.sc0)),
+        s3: xor_blocks(xor_blocks(s.s0, b1), step_block::<W>(k.sc0)),
     }
 }
 
@@ -55,9 +55,9 @@ pub(crate) fn step_back<W: Width>(s: State, k: StepConstants) -> State
 {
     let (s1, s3) = two_unboxes::<W>(s.s0, s.s2, k.rc0, k.rc1);
     State {
-        s0: xor_blocks(xor_blocks(s.s3, s.s0), step_constant::<W>(k.sc0)),
+        s0: xor_blocks(xor_blocks(s.s3, s.s0), step_block::<W>(k.sc0)),
         s1,
-        s2: xor_blocks(xor_blocks(s.s1, s.s2), step_constant::<W>(k.sc1)),
+        s2: xor_blocks(xor_blocks(s.s1, s.s2), step_block::<W>(k.sc1)),
         s3,
     }
 }

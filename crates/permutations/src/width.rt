@@ -22,14 +22,17 @@ pub(crate) trait Width {
 
     ghost table: { List StepConstants };
 
+    // A word is w bytes of 8 bits, at least one and at most four.
     law eight: { m ≡ 8 * w };
 
     law wide: { 8 ≤ m };
 
     law narrow: { m ≤ 32 };
 
+    // A round constant is a byte, so there are at most 8 rounds.
     law few: { u ≤ 8 };
 
+    // Eighteen steps, whose step constants are bytes.
     law long: { length table ≡ 18 };
 
     law small: { All Small table };

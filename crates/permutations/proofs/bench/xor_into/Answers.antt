@@ -8,7 +8,7 @@ use lib.ListN.{length, getD, take}
 use lib.Seq.{take-all}
 use Rattle.std.proofs.shelf.Lists.{take-more-set}
 use Rattle.permutations.specs.Bytes.{xors}
-use Rattle.permutations.proofs.Benches.{xors-push}
+use Rattle.permutations.proofs.Xors.{xors-push}
 use Rattle.permutations.proofs.bench.xor_into.Needs as need
 
 pub loop-i-holds : need.loop-i-holds

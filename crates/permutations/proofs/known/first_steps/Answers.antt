@@ -1,5 +1,4 @@
-use mathlib.Core.Path.{refl, ap, _∙_}
-use lib.ListN.{take}
+use mathlib.Core.Path.{refl}
 use Rattle.permutations.specs.Bytes.{load, store, loads, stores}
 use Rattle.permutations.specs.Light.{forward-step}
 use Rattle.permutations.specs.Simeck.{turned, box}
@@ -8,4 +7,4 @@ use Rattle.permutations.proofs.known.first_steps.Needs as need
 -- by computation
 pub returns : need.returns
 unfolding turned box load store loads stores forward-step
-returns c = record { light192 = c .step .ensures .state; light256 = ap (take 8) (c .step-2 .ensures .state); states = (refl, refl) }
+returns c = record { light192 = c .step .ensures .state; light256 = c .step-2 .ensures .state; states = (refl, refl) }

@@ -12,6 +12,6 @@ pub loop-k-again : need.loop-k-again
 loop-k-again g c =
     let m = g .W·Width .m in
     let k = c .loop-k .k in (
-      box-more m (c .args .rc0) k _ (c .args .a) (c .loop-k .x) _ (omega (arith, g .W·Width·met .wide)) (c .loop-k .inv .0) (c .round-constant .ensures) (c .simeck-round-x .ensures),
-      box-more m (c .args .rc1) k _ (c .args .b) (c .loop-k .y) _ (omega (arith, g .W·Width·met .wide)) (c .loop-k .inv .1) (c .round-constant-in-loop-k .ensures) (c .simeck-round-y .ensures),
+      box-more m (c .args .rc0) k _ (c .args .a) (c .loop-k .x) _ (omega (arith, g .W·Width·met .wide)) (c .loop-k .inv .0) (c .round-word .ensures) (c .simeck-round-x .ensures),
+      box-more m (c .args .rc1) k _ (c .args .b) (c .loop-k .y) _ (omega (arith, g .W·Width·met .wide)) (c .loop-k .inv .1) (c .round-word-in-loop-k .ensures) (c .simeck-round-y .ensures),
     )

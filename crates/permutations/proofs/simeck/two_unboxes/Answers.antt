@@ -9,8 +9,8 @@ loop-k-again g c =
     let m = g .W·Width .m in
     let u = g .W·Width .u in
     let k = c .loop-k .k in (
-      unbox-more m (c .args .rc0) u k _ (c .args .a) (c .loop-k .x) _ (omega (arith, g .W·Width·met .wide)) (c .loop-k-test .taken) (c .loop-k .inv .0) (c .round-constant .ensures) (c .simeck-unround-x .ensures),
-      unbox-more m (c .args .rc1) u k _ (c .args .b) (c .loop-k .y) _ (omega (arith, g .W·Width·met .wide)) (c .loop-k-test .taken) (c .loop-k .inv .1) (c .round-constant-in-loop-k .ensures) (c .simeck-unround-y .ensures),
+      unbox-more m (c .args .rc0) u k _ (c .args .a) (c .loop-k .x) _ (omega (arith, g .W·Width·met .wide)) (c .loop-k-test .taken) (c .loop-k .inv .0) (c .round-word .ensures) (c .simeck-unround-x .ensures),
+      unbox-more m (c .args .rc1) u k _ (c .args .b) (c .loop-k .y) _ (omega (arith, g .W·Width·met .wide)) (c .loop-k-test .taken) (c .loop-k .inv .1) (c .round-word-in-loop-k .ensures) (c .simeck-unround-y .ensures),
     )
 
 pub returns : need.returns

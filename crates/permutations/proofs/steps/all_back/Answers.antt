@@ -5,8 +5,7 @@ use lib.ListN.{length, drop}
 use Rattle.std.proofs.shelf.Lists.{drop-all}
 use Rattle.std.proofs.shelf.Elements.{all-getD}
 use Rattle.permutations.specs.Constants.{row}
-use Rattle.permutations.specs.Steps.{unstep, unsteps, Small}
-use Rattle.permutations.specs.Steps.{Fits-in}
+use Rattle.permutations.specs.Steps.{unstep, unsteps, Small, Fits-in}
 use Rattle.permutations.proofs.Walking.{unsteps-more, unstep-fit}
 use Rattle.permutations.proofs.steps.all_back.Needs as need
 

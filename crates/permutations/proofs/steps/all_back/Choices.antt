@@ -1,7 +1,6 @@
 use mathlib.Core.Path.{_≡_}
 use lib.ListN.{drop}
-use Rattle.permutations.specs.Steps.{unsteps}
-use Rattle.permutations.specs.Steps.{Fits-in}
+use Rattle.permutations.specs.Steps.{unsteps, Fits-in}
 use Rattle.permutations.proofs.steps.all_back.Given as given
 
 abbrev pub Inv-loop-i : given.InvT-loop-i

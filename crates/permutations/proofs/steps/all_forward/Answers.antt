@@ -5,8 +5,7 @@ use lib.ListN.{length, take}
 use lib.Seq.{take-all}
 use Rattle.std.proofs.shelf.Elements.{all-getD}
 use Rattle.permutations.specs.Constants.{row}
-use Rattle.permutations.specs.Steps.{step, steps, Small}
-use Rattle.permutations.specs.Steps.{Fits-in}
+use Rattle.permutations.specs.Steps.{step, steps, Small, Fits-in}
 use Rattle.permutations.proofs.Walking.{steps-more, step-fit}
 use Rattle.permutations.proofs.steps.all_forward.Needs as need
 

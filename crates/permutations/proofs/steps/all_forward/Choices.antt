@@ -1,7 +1,6 @@
 use mathlib.Core.Path.{_≡_}
 use lib.ListN.{take}
-use Rattle.permutations.specs.Steps.{steps}
-use Rattle.permutations.specs.Steps.{Fits-in}
+use Rattle.permutations.specs.Steps.{steps, Fits-in}
 use Rattle.permutations.proofs.steps.all_forward.Given as given
 
 abbrev pub Inv-loop-i : given.InvT-loop-i

@@ -4,7 +4,7 @@ use native.Mathlib.Omega.{arith}
 use lib.Bits.{bitAnd, and-mask}
 use lib.Pow.{pow-mono}
 use Rattle.permutations.specs.Simeck.{gamma}
-use Rattle.permutations.proofs.simeck.round_constant.Needs as need
+use Rattle.permutations.proofs.simeck.round_word.Needs as need
 
 pub sub-result : need.sub-result
 sub-result g c =
