@@ -1,0 +1,5 @@
+mod Counting
+mod Pairing
+mod Printing
+mod Splitting
+mod Trimming
