@@ -21,7 +21,7 @@ use Rattle.permutations.specs.Constants.{row}
 use Rattle.permutations.proofs.Words.{Byte, loads-stores, stores-loads, loads-lt, length-loads, length-stores, stores-bytes}
 use Rattle.permutations.proofs.Walking.{step-fit, unstep-fit, steps-fit, unsteps-fit, unstep-step, step-unstep, unsteps-steps, steps-unsteps, steps-more, unsteps-push}
 
-pow-bytes : (w : ℕ) → 256 ^ w ≡ 2 ^ (8 * w)
+pub pow-bytes : (w : ℕ) → 256 ^ w ≡ 2 ^ (8 * w)
 pow-bytes zero = refl
 pow-bytes (suc w) = pow-suc 256 w ∙ ap (λ z. z * 256) (pow-bytes w) ∙ sym (pow-add 2 (8 * w) 8) ∙ ap (λ z. 2 ^ z) (omega (arith, mul-suc 8 w))
 

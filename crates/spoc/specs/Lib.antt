@@ -1,0 +1,11 @@
+pub mod Bench
+pub mod Claims
+pub mod Fault
+pub mod Feed
+pub mod Known
+pub mod Seal
+pub mod Sealing
+pub mod Spoc128
+pub mod Spoc64
+pub mod Suite
+pub mod Turns

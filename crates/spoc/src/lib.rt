@@ -1,0 +1,31 @@
+// SpoC over every suite: the suite rule, seal and open, and three suites.
+mod bench;
+mod claims;
+mod fault;
+mod known;
+mod mode;
+mod sealing;
+mod spoc128;
+mod spoc64;
+mod subblocks;
+mod suite;
+
+pub use bench::BenchModel;
+pub use bench::BenchSuite;
+pub use claims::seal_and_open;
+pub use fault::SealFault;
+pub use fault::SealFaultDebug;
+pub use fault::SealFaultEq;
+pub use fault::SealFaultPartialEq;
+pub use known::BenchSealed;
+pub use known::bench_example;
+pub use sealing::open;
+pub use sealing::seal;
+pub use spoc64::Spoc64;
+pub use spoc64::Spoc64Model;
+pub use spoc64::Spoc64Suite;
+pub use spoc128::Spoc128;
+pub use spoc128::Spoc128Model;
+pub use spoc128::Spoc128Suite;
+pub use suite::Suite;
+pub use suite::SuiteModel;
