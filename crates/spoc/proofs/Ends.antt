@@ -38,7 +38,7 @@ xors-mask (x ∷ s) (y ∷ m) (z ∷ n) h k e =
 
 -- ---- every mask of a feed is as wide as the state
 
-zeros-octets : (n : ℕ) → Octets (replicate n 0)
+pub zeros-octets : (n : ℕ) → Octets (replicate n 0)
 zeros-octets zero = tt
 zeros-octets (suc n) = (lit< tt, zeros-octets n)
 
@@ -64,14 +64,14 @@ module _ (p : Perm) (q : Plan) where
   set-bytes : (m : List ℕ) (v : ℕ) → v < 256 → Bytes (p .size) m → Bytes (p .size) (set m (control-place q) v)
   set-bytes m v h k = record { size = length-set m (control-place q) v ∙ k .size; small = all-set Byte m (control-place q) v h (k .small) }
 
-  mask-bytes : (c : ℕ) (x : List ℕ) → c + 16 < 256 → Octets x → Bytes (p .size) (mask p q c x)
+  pub mask-bytes : (c : ℕ) (x : List ℕ) → c + 16 < 256 → Octets x → Bytes (p .size) (mask p q c x)
   mask-bytes c x l h =
       let r : ℕ = q .rate in
       let small : control r c x < 256 = elim (ltb (length x) r) as (λ t. cond t (c + 16) c < 256) [ true ↦ l | false ↦ omega arith ] in
       let pad : Octets (padded r x) = all-take Byte r (x ++ 128 ∷ replicate r 0) (all-append Byte x (128 ∷ replicate r 0) h (lit< tt, zeros-octets r)) in
       set-bytes (put (q .masked-places) (padded r x) (zero-mask p)) (control r c x) small (put-bytes (p .size) (q .masked-places) (padded r x) pad)
 
-  map-bytes : (c : ℕ) (xs : List (List ℕ)) → c + 16 < 256 → All Octets xs → All (Bytes (p .size)) (map (mask p q c) xs)
+  pub map-bytes : (c : ℕ) (xs : List (List ℕ)) → c + 16 < 256 → All Octets xs → All (Bytes (p .size)) (map (mask p q c) xs)
   map-bytes c [] l h = tt
   map-bytes c (x ∷ xs) l h = (mask-bytes c x l (h .0), map-bytes c xs l (h .1))
 

@@ -21,7 +21,10 @@ use Rattle.spoc.proofs.Blocks.{blocks-more, cut-joined, cut-fits}
 use Rattle.spoc.proofs.Ends.{one-mask-tells, key-tells}
 use Rattle.spoc.proofs.Feeds.{feeds-distinct}
 use Rattle.spoc.proofs.Masks.{length-rated}
-use Rattle.spoc.proofs.Octet.{ciphertext-octets, tag-octets}
+use Rattle.permutations.specs.Permutation.{Bytes}
+use Rattle.spoc.specs.Sealing.{Octets}
+use mathlib.Core.Path.{subst}
+use Rattle.spoc.proofs.Octet.{ciphertext-octets, tag-octets, plaintext-octets}
 use Rattle.spoc.proofs.Opened.{blocks-plains}
 use Rattle.spoc.proofs.Rows.{length-pick}
 use Rattle.spoc.proofs.Sealed.{length-ended, text-is, unflagged}
@@ -129,6 +132,10 @@ module _ (p : Perm) (q : Plan) (laws : Sound p q) where
       )
   only k n d c t m false same e = absurd (let z : _≡_ {A = ℕ} 0 1 = cc in omega arith)
 
+  given : (x m : List ℕ) (z : Bool) → cond z (Some x) None ≡ Some m → x ≡ m
+  given x m true e = cc
+  given x m false e = absurd (let z : _≡_ {A = ℕ} 0 1 = cc in omega arith)
+
   pub spoc-laws : Bijective p → Laws (spoc p q)
   spoc-laws bij = record {
     version-small = laws .version-small;
@@ -142,6 +149,7 @@ module _ (p : Perm) (q : Plan) (laws : Sound p q) where
         ∙ ap (λ z. cond z (Some m) None) (sameBytes-decides t t .1 refl);
     only-sealed = λ k n d c t m e. only k n d c t m (sameBytes (tag p q k n d (plaintext p q k n d c)) t) refl e;
     ciphertext-octets = ciphertext-octets p bij q laws;
+    opens-octets = λ k n d c t m hk hn hd hc e. subst Octets (given (plaintext p q k n d c) m (sameBytes (tag p q k n d (plaintext p q k n d c)) t) e) (plaintext-octets p bij q laws k n d c hk hn hd hc);
     tag-octets = tag-octets p bij q laws;
   }
 

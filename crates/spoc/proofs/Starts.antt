@@ -3,7 +3,11 @@ use mathlib.Core.Path.{_≡_, refl, sym, ap, ap₂, _∙_}
 use mathlib.Core.List.{List, _++_}
 use Prim.Native.Nat.{ℕ, _+_}
 use native.Mathlib.Omega.{arith}
-use lib.Dec.{lit<, lit≤}
+use mathlib.Core.Bool.{Bool, true, _&&_}
+use lib.Dec.{ltb, leb, eqb}
+use Rattle.std.proofs.shelf.Tests.{ltb-true, leb-true, eqb-true, and-parts}
+use Rattle.permutations.specs.Permutation.{Perm}
+use Rattle.spoc.specs.Suite.{Plan, start}
 use lib.ListN.{length, take, drop, replicate, length-append, take-append-drop}
 use Rattle.std.proofs.shelf.Lists.{append-cancel-right}
 use Rattle.permutations.specs.Bench.{bench}
@@ -21,41 +25,51 @@ use Rattle.spoc.proofs.Places.{fresh, placed, placed-inside, placed-apart}
 from-halves : (k l : List ℕ) → take 8 k ≡ take 8 l → drop 8 k ≡ drop 8 l → k ≡ l
 from-halves k l a b = sym (take-append-drop 8 k) ∙ ap₂ (λ x y. x ++ y) a b ∙ take-append-drop 8 l
 
+-- what a plan over b bytes says in numbers, in one computed test
+shaped : ℕ → Plan → Bool
+shaped b q =
+    ltb (q .version) 65536 && (leb 1 (q .rate) && (leb (q .rate) 16 && (eqb (length (q .rate-places)) (q .rate) && (eqb (length (q .masked-places)) (q .rate) && placed b (places q)))))
+
+sound-from : (p : Perm) (q : Plan) → shaped (p .size) q ≡ true
+    → ((k n : List ℕ) → Bytes 16 k → Bytes 16 n → Bytes (p .size) (start p q k n))
+    → ((k l n : List ℕ) → Bytes 16 k → Bytes 16 l → Bytes 16 n → start p q k n ≡ start p q l n → k ≡ l)
+    → Sound p q
+unfolding shaped
+sound-from p q t bytes apart =
+    let a = and-parts (ltb (q .version) 65536) _ t in
+    let b = and-parts (leb 1 (q .rate)) _ (a .1) in
+    let c = and-parts (leb (q .rate) 16) _ (b .1) in
+    let d = and-parts (eqb (length (q .rate-places)) (q .rate)) _ (c .1) in
+    let e = and-parts (eqb (length (q .masked-places)) (q .rate)) _ (d .1) in
+    record {
+      version-small = ltb-true _ _ (a .0);
+      rate-low = leb-true _ _ (b .0);
+      rate-high = leb-true _ _ (c .0);
+      rate-count = eqb-true _ _ (d .0);
+      masked-count = eqb-true _ _ (e .0);
+      inside = placed-inside (p .size) (places q) (e .1);
+      apart = placed-apart (p .size) (places q) (e .1);
+      begin-bytes = bytes;
+      begin-apart = apart;
+    }
+
 -- ---- bench
 
 pub bench-sound : Sound bench bench-plan
-unfolding fresh placed
-bench-sound = record {
-  version-small = lit< tt;
-  rate-low = lit≤ tt;
-  rate-high = lit≤ tt;
-  rate-count = refl;
-  masked-count = refl;
-  inside = placed-inside 32 (places bench-plan) refl;
-  apart = placed-apart 32 (places bench-plan) refl;
-  begin-bytes = λ k n. bytes-append 16 16 k n;
-  begin-apart = λ k l n _ _ _ e. append-cancel-right k l n e;
-}
+unfolding fresh placed shaped
+bench-sound = sound-from bench bench-plan refl (λ k n. bytes-append 16 16 k n) (λ k l n _ _ _ e. append-cancel-right k l n e)
 
 -- ---- SpoC-128
 
 pub sound-128 : Sound light-256 spoc-128
-unfolding fresh placed begin-128
-sound-128 = record {
-  version-small = lit< tt;
-  rate-low = lit≤ tt;
-  rate-high = lit≤ tt;
-  rate-count = refl;
-  masked-count = refl;
-  inside = placed-inside 32 (places spoc-128) refl;
-  apart = placed-apart 32 (places spoc-128) refl;
-  begin-bytes = λ k n bk bn.
-      bytes-append 8 24 (take 8 n) _ (first-half n bn) (bytes-append 8 16 (take 8 k) _ (first-half k bk) (bytes-append 8 8 (drop 8 n) (drop 8 k) (second-half n bn) (second-half k bk)));
-  begin-apart = λ k l n bk bl bn e.
-      let e1 = parts (take 8 n) _ (take 8 n) _ refl e .1 in
-      let e2 = parts (take 8 k) _ (take 8 l) _ (first-half k bk .size ∙ sym (first-half l bl .size)) e1 in
-      from-halves k l (e2 .0) (parts (drop 8 n) (drop 8 k) (drop 8 n) (drop 8 l) refl (e2 .1) .1);
-}
+unfolding fresh placed shaped begin-128
+sound-128 =
+    sound-from light-256 spoc-128 refl
+    (λ k n bk bn. bytes-append 8 24 (take 8 n) _ (first-half n bn) (bytes-append 8 16 (take 8 k) _ (first-half k bk) (bytes-append 8 8 (drop 8 n) (drop 8 k) (second-half n bn) (second-half k bk))))
+    (λ k l n bk bl bn e.
+    let e1 = parts (take 8 n) _ (take 8 n) _ refl e .1 in
+    let e2 = parts (take 8 k) _ (take 8 l) _ (first-half k bk .size ∙ sym (first-half l bl .size)) e1 in
+    from-halves k l (e2 .0) (parts (drop 8 n) (drop 8 k) (drop 8 n) (drop 8 l) refl (e2 .1) .1))
 
 -- ---- SpoC-64
 
@@ -82,22 +96,14 @@ loaded-same k0 k1 l0 l1 n0 hk0 hk1 hl0 hl1 e =
     )
 
 pub sound-64 : Bijective light-192 → Sound light-192 spoc-64
-unfolding fresh placed begin-64
+unfolding fresh placed shaped begin-64
 sound-64 bij =
     let load : (k n : List ℕ) → Bytes 16 k → Bytes 16 n → Bytes 24 (loaded (take 8 k) (drop 8 k) (take 8 n)) = λ k n bk bn. loaded-bytes (take 8 k) (drop 8 k) (take 8 n) (first-half k bk) (second-half k bk) (first-half n bn) in
     let nonce : (n : List ℕ) → Bytes 16 n → Bytes 24 (put masked-64 (drop 8 n) (replicate 24 0)) = λ n bn. put-bytes 24 masked-64 (drop 8 n) (second-half n bn .small) in
-    record {
-      version-small = lit< tt;
-      rate-low = lit≤ tt;
-      rate-high = lit≤ tt;
-      rate-count = refl;
-      masked-count = refl;
-      inside = placed-inside 24 (places spoc-64) refl;
-      apart = placed-apart 24 (places spoc-64) refl;
-      begin-bytes = λ k n bk bn. xored 24 _ _ (bij .forward-bytes _ (load k n bk bn)) (nonce n bn);
-      begin-apart = λ k l n bk bl bn e.
-          let states = xors-same light-192 bij _ _ (put masked-64 (drop 8 n) (replicate 24 0)) (bij .forward-bytes _ (load k n bk bn)) (bij .forward-bytes _ (load l n bl bn)) (nonce n bn) e in
-          let same = forward-same light-192 bij _ _ (load k n bk bn) (load l n bl bn) states in
-          let both = loaded-same (take 8 k) (drop 8 k) (take 8 l) (drop 8 l) (take 8 n) (first-half k bk) (second-half k bk) (first-half l bl) (second-half l bl) same in
-          from-halves k l (both .0) (both .1);
-    }
+    sound-from light-192 spoc-64 refl
+    (λ k n bk bn. xored 24 _ _ (bij .forward-bytes _ (load k n bk bn)) (nonce n bn))
+    (λ k l n bk bl bn e.
+    let states = xors-same light-192 bij _ _ (put masked-64 (drop 8 n) (replicate 24 0)) (bij .forward-bytes _ (load k n bk bn)) (bij .forward-bytes _ (load l n bl bn)) (nonce n bn) e in
+    let same = forward-same light-192 bij _ _ (load k n bk bn) (load l n bl bn) states in
+    let both = loaded-same (take 8 k) (drop 8 k) (take 8 l) (drop 8 l) (take 8 n) (first-half k bk) (second-half k bk) (first-half l bl) (second-half l bl) same in
+    from-halves k l (both .0) (both .1))

@@ -1,4 +1,4 @@
--- The feed mask by mask, as code that sees one block at a time. Assumes nothing.
+-- The feed mask by mask, as code that sees one block at a time makes it. Assumes nothing.
 use mathlib.Core.Bool.{Bool, true, false, cond}
 use mathlib.Core.List.{List, map}
 use Prim.Native.Nat.{ℕ}

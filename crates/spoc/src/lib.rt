@@ -1,6 +1,7 @@
 // SpoC over every suite: the suite rule, seal and open, and three suites.
 mod bench;
 mod claims;
+mod constants;
 mod fault;
 mod known;
 mod mode;
@@ -13,6 +14,8 @@ mod suite;
 pub use bench::BenchModel;
 pub use bench::BenchSuite;
 pub use claims::seal_and_open;
+pub use constants::rates;
+pub use constants::versions;
 pub use fault::SealFault;
 pub use fault::SealFaultDebug;
 pub use fault::SealFaultEq;

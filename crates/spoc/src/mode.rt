@@ -27,6 +27,13 @@ fn sized<const B: usize, S: Suite<B>>(state: [u8; B])
     S::sized();
 }
 
+// The state has at most 64 bytes: generic code calls this to know it.
+pub(crate) fn small<const B: usize, S: Suite<B>>()
+    ensures { λ _. ⌜ B ≤ 64 ⌝ }
+{
+    S::sized();
+}
+
 // A short block, followed by 0x80 and zeros.
 fn padded_block(block: &[u8]) -> [u8; 16]
     requires { ⌜ length (now block) < 16 ⌝ }
@@ -38,7 +45,7 @@ fn padded_block(block: &[u8]) -> [u8; 16]
     bytes
 }
 
-// A full block, in a copy that no reference to the state can alias.
+// A full block in a copy: the compiler then knows its length, and that masking does not change it.
 fn full_block(block: &[u8], rate: usize) -> [u8; 16]
     requires { ⌜ length (now block) ≡ rate ⌝ ∗ ⌜ rate ≤ 16 ⌝ }
     ensures { λ r. ⌜ take rate r ≡ now (block .entry) ⌝ }
@@ -138,7 +145,7 @@ pub(crate) fn absorb_data<const B: usize, S: Suite<B>>(state: &mut [u8; B], data
     }
 }
 
-// The first n bytes of a block xored with the rate places.
+// A block of n bytes xored with the rate places.
 fn xor_first<const B: usize, S: Suite<B>>(state: &[u8; B], block: &[u8], out: &mut [u8], n: usize)
     requires fits { ⌜ length (now block) ≤ S·SuiteModel .plan .rate ⌝ }
     requires room { ⌜ length (now out) ≡ length (now block) ⌝ }

@@ -10,6 +10,7 @@ use crate::mode::absorb_data;
 use crate::mode::first_step;
 use crate::mode::open_blocks;
 use crate::mode::seal_blocks;
+use crate::mode::small;
 use crate::mode::tag_agrees;
 use crate::mode::write_tag;
 use crate::suite::Suite;
@@ -56,7 +57,7 @@ fn seal_accepted<const B: usize, S: Suite<B>>(
     ensures out { λ _. ⌜ now (out .exit) ≡ ciphertext-of (S·Bijection .meaning) (S·SuiteModel .plan) (now (key .entry)) (now (nonce .entry)) (now («data» .entry)) (now (message .entry)) ++ drop (length (now (message .entry))) (now (out .entry)) ⌝ }
     ensures tag { λ _. ⌜ now (tag .exit) ≡ tag-of (S·Bijection .meaning) (S·SuiteModel .plan) (now (key .entry)) (now (nonce .entry)) (now («data» .entry)) (now (message .entry)) ⌝ }
 {
-    S::sized();
+    small::<B, S>();
     let mut state = S::start(key, nonce);
     let no_message = message.is_empty();
     first_step::<B, S>(&mut state, data.is_empty() & no_message);
@@ -105,7 +106,7 @@ fn open_accepted<const B: usize, S: Suite<B>>(
     ensures answer { λ r. ⌜ r ≡ sameBytes (tag-of (S·Bijection .meaning) (S·SuiteModel .plan) (now (key .entry)) (now (nonce .entry)) (now («data» .entry)) (plaintext (S·Bijection .meaning) (S·SuiteModel .plan) (now (key .entry)) (now (nonce .entry)) (now («data» .entry)) (now (ciphertext .entry)))) (now (tag .entry)) ⌝ }
     ensures out { λ _. ⌜ now (out .exit) ≡ plaintext (S·Bijection .meaning) (S·SuiteModel .plan) (now (key .entry)) (now (nonce .entry)) (now («data» .entry)) (now (ciphertext .entry)) ++ drop (length (now (ciphertext .entry))) (now (out .entry)) ⌝ }
 {
-    S::sized();
+    small::<B, S>();
     let mut state = S::start(key, nonce);
     let no_message = ciphertext.is_empty();
     first_step::<B, S>(&mut state, data.is_empty() & no_message);

@@ -30,18 +30,3 @@ returns g c =
           ∙ ap (λ z. sameBytes (pick (q .masked-places) z) (c .args .tag .now)) (c .open-blocks .ensures .state ∙ ap (λ z. run p z (opened-masks p q z y)) s ∙ opened-end p q (g .S·SuiteModel·met .sound) k n d y);
       out = c .open-blocks .ensures .out ∙ ap (λ z. z ++ drop (length y) (c .args .out .now)) (ap (λ z. joined (λ x. x) (plains p q z (blocks (q .rate) y))) s ∙ plain-is p q k n d y);
     }
-
-pub start-state-requires : need.start-state-requires
-start-state-requires g c κs = let h : g .B ≤ 64 = omega (arith, c .sized .ensures, g .S·Bijection·met .bijective .most) in search needs
-
-pub first-step-requires : need.first-step-requires
-first-step-requires g c κs = let h : g .B ≤ 64 = omega (arith, c .sized .ensures, g .S·Bijection·met .bijective .most) in search needs
-
-pub absorb-data-requires : need.absorb-data-requires
-absorb-data-requires g c κs = let h : g .B ≤ 64 = omega (arith, c .sized .ensures, g .S·Bijection·met .bijective .most) in search needs
-
-pub open-blocks-requires : need.open-blocks-requires
-open-blocks-requires g c κs = let h : g .B ≤ 64 = omega (arith, c .sized .ensures, g .S·Bijection·met .bijective .most) in search needs
-
-pub tag-agrees-requires : need.tag-agrees-requires
-tag-agrees-requires g c κs = let h : g .B ≤ 64 = omega (arith, c .sized .ensures, g .S·Bijection·met .bijective .most) in search needs

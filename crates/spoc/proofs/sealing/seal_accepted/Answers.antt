@@ -25,18 +25,3 @@ returns g c =
       out = c .seal-blocks .ensures .out ∙ ap (λ z. z ++ drop (length m) (c .args .out .now)) (ap (λ z. ciphers p q z (blocks (q .rate) m) (ended q (masks p q 64 m))) s ∙ text-is p q k n d m);
       tag = c .write-tag .ensures ∙ ap (pick (q .masked-places)) (c .seal-blocks .ensures .state ∙ ap (λ z. run p z (ended q (masks p q 64 m))) s ∙ end-is p q (start p q k n) d m);
     }
-
-pub start-state-requires : need.start-state-requires
-start-state-requires g c κs = let h : g .B ≤ 64 = omega (arith, c .sized .ensures, g .S·Bijection·met .bijective .most) in search needs
-
-pub first-step-requires : need.first-step-requires
-first-step-requires g c κs = let h : g .B ≤ 64 = omega (arith, c .sized .ensures, g .S·Bijection·met .bijective .most) in search needs
-
-pub absorb-data-requires : need.absorb-data-requires
-absorb-data-requires g c κs = let h : g .B ≤ 64 = omega (arith, c .sized .ensures, g .S·Bijection·met .bijective .most) in search needs
-
-pub seal-blocks-requires : need.seal-blocks-requires
-seal-blocks-requires g c κs = let h : g .B ≤ 64 = omega (arith, c .sized .ensures, g .S·Bijection·met .bijective .most) in search needs
-
-pub write-tag-requires : need.write-tag-requires
-write-tag-requires g c κs = let h : g .B ≤ 64 = omega (arith, c .sized .ensures, g .S·Bijection·met .bijective .most) in search needs

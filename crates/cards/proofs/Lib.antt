@@ -1,0 +1,15 @@
+pub mod Numbers
+pub mod Heads
+pub mod Parsing
+pub mod Records
+pub mod Puts
+pub mod Walking
+pub mod Counting
+pub mod Reading
+pub mod Places
+pub mod Writing
+pub mod CardOctets
+pub mod Runs
+pub mod Nonces
+pub mod Claims
+pub mod Finding
