@@ -19,6 +19,7 @@ cut r zero s = []
 cut r (suc n) [] = []
 cut r (suc n) (x ∷ s) = take r (x ∷ s) ∷ cut r n (drop r (x ∷ s))
 
+-- the blocks of s
 abbrev pub blocks : ℕ → List ℕ → List (List ℕ)
 blocks r s = cut r (length s) s
 
@@ -44,6 +45,7 @@ pick ps s = map (λ p. getD s p 0) ps
 abbrev pub control-place : Plan → ℕ
 control-place q = getD (q .rate-places) 0 0
 
+-- a mask of zeros, as wide as the state
 abbrev pub zero-mask : Perm → List ℕ
 zero-mask p = replicate (p .size) 0
 
@@ -55,6 +57,7 @@ mask-with p q c x = set (put (q .masked-places) (padded (q .rate) x) (zero-mask 
 abbrev pub mask : Perm → Plan → ℕ → List ℕ → List ℕ
 mask p q c x = mask-with p q (control (q .rate) c x) x
 
+-- the masks of the blocks of s
 abbrev pub masks : Perm → Plan → ℕ → List ℕ → List (List ℕ)
 masks p q c s = map (mask p q c) (blocks (q .rate) s)
 
@@ -95,6 +98,7 @@ ciphers p q s (x ∷ xs) (m ∷ ms) = xors x (pick (q .rate-places) s) ++ cipher
 abbrev pub before : Plan → List ℕ → ℕ
 before q d = suc (length (blocks (q .rate) d))
 
+-- the message's blocks, each xored as its mask's turn comes
 abbrev pub ciphertext : Perm → Plan → List ℕ → List ℕ → List ℕ → List ℕ → List ℕ
 ciphertext p q k n d m =
     let ms = feed p q d m in

@@ -7,6 +7,7 @@ use Rattle.permutations.specs.Bench.{bench}
 use Rattle.spoc.specs.Bench.{bench-plan}
 use Rattle.spoc.specs.Feed.{tag, ciphertext}
 
+-- eight times one byte
 abbrev pub eight : ℕ → List ℕ
 eight n = replicate 8 n
 
@@ -14,9 +15,11 @@ eight n = replicate 8 n
 abbrev example-tag : List ℕ → List ℕ → List ℕ
 example-tag d m = tag bench bench-plan (eight 0x01 ++ eight 0x02) (eight 0x04 ++ eight 0x08) d m
 
+-- the ciphertext under the same
 abbrev example-text : List ℕ → List ℕ → List ℕ
 example-text d m = ciphertext bench bench-plan (eight 0x01 ++ eight 0x02) (eight 0x04 ++ eight 0x08) d m
 
+-- nothing sealed; eight 10 as data; one 10 as message; eight 10 and eight 20; eight 10 as message
 abbrev pub Bench-examples : Type 0
 Bench-examples =
     (example-tag [] [] ≡ eight 0x09)

@@ -36,6 +36,7 @@ abbrev pub sealed-unless : Option SealFault → List ℕ → List ℕ → Sealed
 sealed-unless None o t done = done
 sealed-unless (Some e) o t done = record { answer = Err e; out = o; tag = t }
 
+-- seal, of key, nonce, data, message, output and the tag's buffer
 abbrev pub sealed : Perm → Plan → List ℕ → List ℕ → List ℕ → List ℕ → List ℕ → List ℕ → Sealed
 sealed p q k n d m o t =
     sealed-unless (first-no (q .rate) k n d m o t) o t
@@ -56,6 +57,7 @@ abbrev pub judged : Option (List ℕ) → ℕ → List ℕ → Opened
 judged (Some m) n rest = record { answer = Ok tt; out = m ++ rest }
 judged None n rest = record { answer = Err TagMismatch; out = replicate n 0 ++ rest }
 
+-- open, of key, nonce, data, ciphertext, output and tag
 abbrev pub opened : Perm → Plan → List ℕ → List ℕ → List ℕ → List ℕ → List ℕ → List ℕ → Opened
 opened p q k n d c o t =
     opened-unless (first-no (q .rate) k n d c o t) o

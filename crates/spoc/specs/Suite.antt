@@ -5,7 +5,7 @@ use Prim.Native.Nat.{ℕ, _<_, _≤_}
 use lib.ListN.{length, getD}
 use Rattle.permutations.specs.Permutation.{Bytes, Perm}
 
--- begin makes a start of the permutation's forward, a key and a nonce
+-- how SpoC stands on a permutation: begin makes a start of the permutation's forward, a key and a nonce
 pub record Plan : Type 0 where
   pub version : ℕ
   pub rate : ℕ
@@ -13,6 +13,7 @@ pub record Plan : Type 0 where
   pub masked-places : List ℕ
   pub begin : (List ℕ → List ℕ) → List ℕ → List ℕ → List ℕ
 
+-- the rate places and then the masked places
 abbrev pub places : Plan → List ℕ
 places q = q .rate-places ++ q .masked-places
 
@@ -20,7 +21,8 @@ places q = q .rate-places ++ q .masked-places
 abbrev pub start : Perm → Plan → List ℕ → List ℕ → List ℕ
 start p q k n = q .begin (p .forward) k n
 
--- the suite rule
+-- the suite rule: a version of 16 bits and a rate of 1 to 16; as many rate places and as many masked places, all different and within the state;
+-- a start as wide as the state, and under one nonce different starts for different keys
 pub record Sound (p : Perm) (q : Plan) : Type 0 where
   pub version-small : q .version < 65536
   pub rate-low : 1 ≤ q .rate

@@ -16,7 +16,7 @@ pub struct BenchSealed {
     pub tag: [u8; 8],
 }
 
-// Seals eight bytes 20 with eight bytes 10 as data under the bench suite, an example for pencil and paper.
+// Seals eight bytes 0x20 with eight bytes 0x10 as data under the bench suite, an example for pencil and paper.
 pub fn bench_example() -> BenchSealed
     ensures ciphertext { λ r. ⌜ r .ciphertext ≡ eight 0x21 ⌝ }
     ensures tag { λ r. ⌜ r .tag ≡ 0x1f ∷ replicate 7 0x3f ⌝ }
