@@ -1,3 +1,4 @@
+mod Back
 mod Counting
 mod Pairing
 mod Printing

@@ -1,20 +1,16 @@
 -- Bytes as hexadecimal pairs: read in either case, written in capitals. Assumes nothing.
 use mathlib.Core.Bool.{cond}
 use mathlib.Core.List.{List, [], _∷_}
-use mathlib.Core.Logic.{_⊎_}
 use mathlib.Core.Path.{_≡_}
-use Prim.Native.Nat.{ℕ, _+_, _-_, _*_, _/_, _%_}
+use Prim.Native.Nat.{ℕ, _+_, _-_, _*_, _/_, _%_, _<_}
 use lib.Dec.{ltb}
-use Rattle.std.specs.Of.Vec.{vec-items}
-use Rattle.std.specs.Results.{Cases}
 use Rattle.std.specs.Text.{within}
-use Rattle.std.specs.declared.alloc.Global.{Global}
 use Rattle.std.specs.declared.result.Result.{Result}
 use Rattle.std.specs.declared.result.Result.the-variants.{Ok, Err}
-use Rattle.std.specs.declared.vec.Vec.{Vec}
+use Rattle.std.specs.shelf.Lists.{All}
 use Rattle.std.specs.shelf.Text.{sameBytes}
 use Rattle.script.specs.declared.unread.Unread.{Unread}
-use Rattle.script.specs.declared.unread.Unread.the-variants.{EmptyWord, OddDigits, WrongDigit, Memory}
+use Rattle.script.specs.declared.unread.Unread.the-variants.{EmptyWord, OddDigits, WrongDigit}
 
 -- the value of a digit: 0 to 9, A to F, a to f
 abbrev pub hex-digit : ℕ → Result ℕ Unread
@@ -44,10 +40,6 @@ abbrev pub bytes-of : List ℕ → Result (List ℕ) Unread
 bytes-of [] = Err EmptyWord
 bytes-of (a ∷ rest) = cond (sameBytes (a ∷ rest) (45 ∷ [])) (Ok []) (pairs (a ∷ rest))
 
--- the bytes in memory; the reason may also be want of memory
-abbrev pub Reads : Result (Vec ℕ Global) Unread → Result (List ℕ) Unread → Type 0
-Reads r a = Cases r (λ v. a ≡ Ok (vec-items v)) (λ e. (a ≡ Err e) ⊎ (e ≡ Memory))
-
 -- a digit below 16, in capitals
 abbrev pub upper : ℕ → ℕ
 upper d = cond (ltb d 10) (48 + d) (55 + d)
@@ -61,3 +53,7 @@ hex-pairs (b ∷ bs) = upper (b / 16) ∷ upper (b % 16) ∷ hex-pairs bs
 abbrev pub hex-text : List ℕ → List ℕ
 hex-text [] = 45 ∷ []
 hex-text (b ∷ bs) = hex-pairs (b ∷ bs)
+
+-- bytes that are printed read back
+abbrev pub Reads-back : Type 0
+Reads-back = (bs : List ℕ) → All (λ b. b < 256) bs → bytes-of (hex-text bs) ≡ Ok bs

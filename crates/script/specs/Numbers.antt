@@ -9,7 +9,7 @@ use Rattle.std.specs.declared.result.Result.{Result}
 use Rattle.std.specs.declared.result.Result.the-variants.{Ok, Err}
 use Rattle.std.specs.shelf.Text.{allDigits}
 use Rattle.script.specs.declared.unread.Unread.{Unread}
-use Rattle.script.specs.declared.unread.Unread.the-variants.{NotANumber, NumberTooLarge}
+use Rattle.script.specs.declared.unread.Unread.the-variants.{EmptyWord, NotANumber, NumberTooLarge}
 
 -- the value of digits that follow those of n, the highest first
 abbrev pub value-after : ℕ → List ℕ → ℕ
@@ -22,7 +22,7 @@ fitting n = cond (ltb n (2 ^ 64)) (Ok n) (Err NumberTooLarge)
 
 -- the number that a word of one digit or more writes
 abbrev pub number-of : List ℕ → Result ℕ Unread
-number-of [] = Err NotANumber
+number-of [] = Err EmptyWord
 number-of (b ∷ bs) = cond (allDigits (b ∷ bs)) (fitting (value-after 0 (b ∷ bs))) (Err NotANumber)
 
 -- a number with one digit more at its end, none where it does not fit 64 bits

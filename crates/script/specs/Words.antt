@@ -55,6 +55,19 @@ abbrev pub next-left : List (List ℕ) → List (List ℕ)
 next-left [] = []
 next-left (w ∷ ws) = ws
 
+-- reading goes on with what was read, and ends at the first reason against it
+abbrev pub with-read : {A B : Type 0} → Result A Unread → (A → Result B Unread) → Result B Unread
+with-read (Ok x) f = f x
+with-read (Err e) f = Err e
+
+-- the next word, with the words after it
+abbrev pub with-word : {B : Type 0} → List (List ℕ) → (List ℕ → List (List ℕ) → Result B Unread) → Result B Unread
+with-word ws f = with-read (next-word ws) (λ w. f w (next-left ws))
+
+-- the same, with what the word says
+abbrev pub with-next : {A B : Type 0} → (List ℕ → Result A Unread) → List (List ℕ) → (A → List (List ℕ) → Result B Unread) → Result B Unread
+with-next read ws f = with-word ws (λ w rest. with-read (read w) (λ x. f x rest))
+
 -- no word may be left at the end
 abbrev pub ending : List (List ℕ) → Result (Unit {0}) Unread
 ending [] = Ok tt

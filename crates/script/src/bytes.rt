@@ -1,8 +1,10 @@
 ghost use mathlib.Core.Path.{_≡_};
 ghost use Prim.Native.Nat.{_<_};
 ghost use Rattle.std.specs.declared.option.Option.the-variants.{Some};
+ghost use Rattle.std.specs.Of.Vec.{vec-items};
 ghost use Rattle.std.specs.Vec.{made};
-ghost use Rattle.script.specs.Hex.{hex-digit, byte-of, bytes-of, Reads, upper, hex-text};
+ghost use Rattle.script.specs.Hex.{hex-digit, byte-of, pairs, bytes-of, upper, hex-text, Reads-back};
+ghost use Rattle.script.specs.Reasons.{Holds};
 use crate::unread::Unread;
 use crate::unread::UnreadFromRefused;
 use crate::words::is_word;
@@ -29,24 +31,32 @@ fn read_pair(high: u8, low: u8) -> Result<u8, Unread>
     Ok(digit_value(high)? * 16 + digit_value(low)?)
 }
 
-// Reads hexadecimal pairs, in either case, and - for no bytes.
-pub fn read_bytes(heap: Global, word: &[u8]) -> Result<Vec<u8>, Unread>
-    ensures { λ r. ⌜ Reads r (bytes-of (now (word .entry))) ⌝ }
+// The bytes of pairs of digits.
+fn read_pairs(heap: Global, digits: &[u8]) -> Result<Vec<u8>, Unread>
+    ensures { λ r. ⌜ Holds vec-items r (pairs (now (digits .entry))) ⌝ }
 {
     let mut bytes = Vec::new(heap);
-    if word.is_empty() {
-        return Err(Unread::EmptyWord);
-    }
-    if is_word(word, "-") {
-        return Ok(bytes);
-    }
-    for pair in word.chunks(2) {
+    for pair in digits.chunks(2) {
         if pair.len() < 2 {
             return Err(Unread::OddDigits);
         }
         bytes.push(read_pair(pair[0], pair[1])?)?;
     }
     Ok(bytes)
+}
+
+// Reads hexadecimal pairs, in either case, and - for no bytes. Bytes that are printed read back.
+pub fn read_bytes(heap: Global, word: &[u8]) -> Result<Vec<u8>, Unread>
+    ensures bytes { λ r. ⌜ Holds vec-items r (bytes-of (now (word .entry))) ⌝ }
+    ensures law { λ _. ⌜ Reads-back ⌝ }
+{
+    if word.is_empty() {
+        return Err(Unread::EmptyWord);
+    }
+    if is_word(word, "-") {
+        return Ok(Vec::new(heap));
+    }
+    read_pairs(heap, word)
 }
 
 // A digit below 16, in capitals.

@@ -1,4 +1,4 @@
-// The words of a bench script: what a line holds, read word by word, and bytes as they are printed.
+// The words of a workbench script: what a line holds, read word by word, and bytes as they are printed.
 mod bytes;
 mod line;
 mod names;
@@ -16,6 +16,12 @@ pub use line::without_return;
 pub use names::CallName;
 pub use names::CallNameDebug;
 pub use names::CallNamePartialEq;
+pub use names::CipherCall;
+pub use names::CipherCallDebug;
+pub use names::CipherCallPartialEq;
+pub use names::PermutationCall;
+pub use names::PermutationCallDebug;
+pub use names::PermutationCallPartialEq;
 pub use names::PermutationName;
 pub use names::PermutationNameDebug;
 pub use names::PermutationNameDisplay;

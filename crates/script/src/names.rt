@@ -5,12 +5,28 @@ use crate::unread::Unread;
 use crate::words::is_word;
 use std::fmt;
 
-// What a line asks for.
+// A call on a state of a permutation.
 #[derive(Clone, Copy, Debug, PartialEq, Eq)]
-pub enum CallName {
+pub enum PermutationCall {
     Forward,
     Back,
     Trace,
+}
+
+// A call of the cipher.
+#[derive(Clone, Copy, Debug, PartialEq, Eq)]
+pub enum CipherCall {
+    Seal,
+    Open,
+    SealInto,
+    OpenInto,
+}
+
+// What a line asks for. Calls of one kind begin with the same words.
+#[derive(Clone, Copy, Debug, PartialEq, Eq)]
+pub enum CallName {
+    Permutation(PermutationCall),
+    Cipher(CipherCall),
 }
 
 // Reads the name of a call.
@@ -18,11 +34,19 @@ pub fn read_call(word: &[u8]) -> Result<CallName, Unread>
     ensures { λ r. ⌜ r ≡ call-named (now (word .entry)) ⌝ }
 {
     if is_word(word, "forward") {
-        Ok(CallName::Forward)
+        Ok(CallName::Permutation(PermutationCall::Forward))
     } else if is_word(word, "back") {
-        Ok(CallName::Back)
+        Ok(CallName::Permutation(PermutationCall::Back))
     } else if is_word(word, "trace") {
-        Ok(CallName::Trace)
+        Ok(CallName::Permutation(PermutationCall::Trace))
+    } else if is_word(word, "seal") {
+        Ok(CallName::Cipher(CipherCall::Seal))
+    } else if is_word(word, "open") {
+        Ok(CallName::Cipher(CipherCall::Open))
+    } else if is_word(word, "seal-into") {
+        Ok(CallName::Cipher(CipherCall::SealInto))
+    } else if is_word(word, "open-into") {
+        Ok(CallName::Cipher(CipherCall::OpenInto))
     } else {
         Err(Unread::UnknownCall)
     }
@@ -36,15 +60,24 @@ pub enum PermutationName {
     Bench,
 }
 
+impl PermutationName {
+    // The word that names it.
+    fn text(self) -> &'static str
+        ensures { λ r. ⌜ now r ≡ name-text self ⌝ }
+    {
+        match self {
+            PermutationName::Light192 => "192",
+            PermutationName::Light256 => "256",
+            PermutationName::Bench => "bench",
+        }
+    }
+}
+
 pub impl fmt::Display for PermutationName as PermutationNameDisplay {
     ghost shown = { λ n. Some (name-text n) };
 
     fn fmt<W: fmt::Write>(&self, f: &mut fmt::Formatter<W>) -> fmt::Result {
-        match self {
-            PermutationName::Light192 => f.write_str("192"),
-            PermutationName::Light256 => f.write_str("256"),
-            PermutationName::Bench => f.write_str("bench"),
-        }
+        f.write_str(self.text())
     }
 }
 
@@ -52,11 +85,11 @@ pub impl fmt::Display for PermutationName as PermutationNameDisplay {
 pub fn read_permutation(word: &[u8]) -> Result<PermutationName, Unread>
     ensures { λ r. ⌜ r ≡ permutation-named (now (word .entry)) ⌝ }
 {
-    if is_word(word, "192") {
+    if is_word(word, PermutationName::Light192.text()) {
         Ok(PermutationName::Light192)
-    } else if is_word(word, "256") {
+    } else if is_word(word, PermutationName::Light256.text()) {
         Ok(PermutationName::Light256)
-    } else if is_word(word, "bench") {
+    } else if is_word(word, PermutationName::Bench.text()) {
         Ok(PermutationName::Bench)
     } else {
         Err(Unread::UnknownPermutation)

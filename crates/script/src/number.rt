@@ -14,7 +14,7 @@ pub fn read_number(word: &[u8]) -> Result<u64, Unread>
     ensures { λ r. ⌜ r ≡ number-of (now (word .entry)) ⌝ }
 {
     if word.is_empty() {
-        return Err(Unread::NotANumber);
+        return Err(Unread::EmptyWord);
     }
     let mut number = Some(0);
     for b in word {

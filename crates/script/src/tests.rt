@@ -18,7 +18,7 @@ fn bytes_and_reasons(rt: LibcRuntime) -> Result<(), Fail> {
         (b"-", "-"),
         (b"00", "00"),
         (b"09afAF9f", "09AFAF9F"),
-        (b"", "an empty word"),
+        (b"", "words are separated by one space"),
         (b"001", "odd number of digits"),
         (b"0g", "not a hexadecimal digit"),
         (b"0:1", "not a hexadecimal digit"),
@@ -42,7 +42,7 @@ fn numbers_and_reasons(rt: LibcRuntime) -> Result<(), Fail> {
         (b"18446744073709551615", "18446744073709551615"),
         (b"18446744073709551616", "a number of more than 64 bits"),
         (b"99999999999999999999x", "not a decimal number"),
-        (b"", "not a decimal number"),
+        (b"", "words are separated by one space"),
         (b"+1", "not a decimal number"),
         (b"1a", "not a decimal number"),
     ];

@@ -15,6 +15,7 @@ use std::fmt;
 pub enum Unread {
     UnknownCall,
     UnknownPermutation,
+    UnknownVersion,
     TooFewWords,
     TooManyWords,
     EmptyWord,
@@ -37,9 +38,10 @@ pub impl fmt::Display for Unread as UnreadDisplay {
         match self {
             Unread::UnknownCall => f.write_str("unknown call"),
             Unread::UnknownPermutation => f.write_str("unknown permutation"),
+            Unread::UnknownVersion => f.write_str("unknown version"),
             Unread::TooFewWords => f.write_str("too few words"),
             Unread::TooManyWords => f.write_str("too many words"),
-            Unread::EmptyWord => f.write_str("an empty word"),
+            Unread::EmptyWord => f.write_str("words are separated by one space"),
             Unread::OddDigits => f.write_str("odd number of digits"),
             Unread::WrongDigit => f.write_str("not a hexadecimal digit"),
             Unread::NotANumber => f.write_str("not a decimal number"),

@@ -1,8 +1,10 @@
 ghost use mathlib.Core.Path.{_≡_};
 ghost use Rattle.std.specs.Of.String.{string-bytes};
 ghost use Rattle.std.specs.Vec.{made};
-ghost use Rattle.script.specs.Words.{words};
-ghost use Rattle.workbench.specs.Printed.{state-text, step-text, trace-text, call-answer, asked, line-text, Says};
+ghost use Rattle.script.specs.Reasons.{Holds};
+ghost use Rattle.script.specs.Words.{words, left};
+ghost use Rattle.workbench.specs.Printed.{state-text, step-text, trace-text, call-answer, permutation-asked, version-asked, asked, May-print};
+use crate::cipher::call_cipher;
 use permutations::Bench;
 use permutations::BenchBijection;
 use permutations::BenchPermutation;
@@ -21,8 +23,10 @@ use permutations::Light256Steps;
 use permutations::Permutation;
 use permutations::Stepped;
 use script::CallName;
+use script::CipherCall;
 use script::Hex;
 use script::HexDisplay;
+use script::PermutationCall;
 use script::PermutationName;
 use script::Unread;
 use script::UnreadDisplay;
@@ -31,8 +35,18 @@ use script::Words;
 use script::is_silent;
 use script::read_bytes;
 use script::read_call;
+use script::read_number;
 use script::read_permutation;
 use script::without_return;
+use spoc::BenchModel;
+use spoc::BenchSuite;
+use spoc::Spoc64;
+use spoc::Spoc64Model;
+use spoc::Spoc64Suite;
+use spoc::Spoc128;
+use spoc::Spoc128Model;
+use spoc::Spoc128Suite;
+use spoc::Suite;
 use std::alloc::AllocError;
 use std::alloc::Global;
 
@@ -90,11 +104,11 @@ fn trace<const B: usize, P: Stepped<B>>(
 // Makes the call on a state, which the bytes have to be as long as.
 fn call_on<const B: usize, P: Stepped<B>>(
     heap: Global,
-    call: CallName,
+    call: PermutationCall,
     of: PermutationName,
     bytes: &[u8],
 ) -> Result<String, Unread>
-    ensures { λ r. ⌜ Says r (call-answer of (P·Bijection .meaning) (P·Steps .walk) call (now (bytes .entry))) ⌝ }
+    ensures { λ r. ⌜ Holds string-bytes r (call-answer of (P·Bijection .meaning) (P·Steps .walk) call (now (bytes .entry))) ⌝ }
 {
     P::sized();
     let Ok(state) = <[u8; B]>::try_from(bytes) else {
@@ -105,19 +119,17 @@ fn call_on<const B: usize, P: Stepped<B>>(
         });
     };
     let text = match call {
-        CallName::Forward => forward::<B, P>(heap, state)?,
-        CallName::Back => back::<B, P>(heap, state)?,
-        CallName::Trace => trace::<B, P>(heap, state)?,
+        PermutationCall::Forward => forward::<B, P>(heap, state)?,
+        PermutationCall::Back => back::<B, P>(heap, state)?,
+        PermutationCall::Trace => trace::<B, P>(heap, state)?,
     };
     Ok(text)
 }
 
-// Reads a line's words from left to right, and makes the call.
-fn read_and_call(heap: Global, line: &[u8]) -> Result<String, Unread>
-    ensures { λ r. ⌜ Says r (asked (words (now (line .entry)))) ⌝ }
+// Reads a permutation and a state, and makes the call.
+fn call_permutation(heap: Global, call: PermutationCall, mut words: Words) -> Result<String, Unread>
+    ensures { λ r. ⌜ Holds string-bytes r (permutation-asked call (left (words .entry))) ⌝ }
 {
-    let mut words = Words::new(line);
-    let call = read_call(words.next_word()?)?;
     let of = read_permutation(words.next_word()?)?;
     let bytes = read_bytes(heap, words.next_word()?)?;
     words.finish()?;
@@ -128,9 +140,36 @@ fn read_and_call(heap: Global, line: &[u8]) -> Result<String, Unread>
     }
 }
 
-// What a line prints, each of its lines ended by a line feed.
+// Reads a version, and makes the call over its suite.
+fn call_version(heap: Global, call: CipherCall, mut words: Words) -> Result<String, Unread>
+    ensures { λ r. ⌜ Holds string-bytes r (version-asked call (left (words .entry))) ⌝ }
+{
+    let version = read_number(words.next_word()?)?;
+    if version == u64::from(Spoc64::version_number()) {
+        call_cipher::<24, Spoc64>(heap, call, words)
+    } else if version == u64::from(Spoc128::version_number()) {
+        call_cipher::<32, Spoc128>(heap, call, words)
+    } else if version == u64::from(Bench::version_number()) {
+        call_cipher::<32, Bench>(heap, call, words)
+    } else {
+        Err(Unread::UnknownVersion)
+    }
+}
+
+// Reads a line's words from left to right, and makes the call.
+fn read_and_call(heap: Global, line: &[u8]) -> Result<String, Unread>
+    ensures { λ r. ⌜ Holds string-bytes r (asked (words (now (line .entry)))) ⌝ }
+{
+    let mut words = Words::new(line);
+    match read_call(words.next_word()?)? {
+        CallName::Permutation(call) => call_permutation(heap, call, words),
+        CallName::Cipher(call) => call_version(heap, call, words),
+    }
+}
+
+// What a line prints, each of its lines ended by a line feed. A line that finds no memory says so.
 pub fn answer(heap: Global, line: &[u8]) -> Result<String, AllocError>
-    ensures { λ r. ⌜ made r (λ t. string-bytes t ≡ line-text (now (line .entry))) ⌝ }
+    ensures { λ r. ⌜ made r (λ t. May-print (now (line .entry)) (string-bytes t)) ⌝ }
 {
     let line = without_return(line);
     if is_silent(line) {
@@ -138,7 +177,6 @@ pub fn answer(heap: Global, line: &[u8]) -> Result<String, AllocError>
     }
     match read_and_call(heap, line) {
         Ok(text) => Ok(text),
-        Err(Unread::Memory) => Err(AllocError),
         Err(reason) => format!(heap, "unread: {reason}\n"),
     }
 }

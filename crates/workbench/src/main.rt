@@ -1,5 +1,6 @@
 // The workbench: reads a script from standard input, one call to a line, and prints what each line answers.
 mod calls;
+mod cipher;
 
 use calls::answer;
 use std::error::AnyError;
