@@ -53,7 +53,7 @@ pub enum CardNo {
     Cut,
     // The mark is not SEA.
     Mark,
-    // The version is not the suite's.
+    // The version is not the suite's, or of a checked card the rate.
     Version,
     // Bytes are left after the end record.
     Left,
@@ -125,7 +125,7 @@ impl CardFault {
         }
     }
 
-    // The record that was reached.
+    // The record: in check the one reached, in append and close the writer's, in sheet the number given, else 0.
     pub fn record(&self) -> usize
         ensures { λ r. ⌜ r ≡ of-card (now (self .entry)) .record-no ⌝ }
     {
@@ -136,7 +136,7 @@ impl CardFault {
         }
     }
 
-    // Where on the card the part that was asked after begins.
+    // The place: in check where the part asked after begins, in append and close where the next record would begin, in sheet where the body begins or 0, else 0.
     pub fn place(&self) -> usize
         ensures { λ r. ⌜ r ≡ of-card (now (self .entry)) .place ⌝ }
     {

@@ -1,10 +1,14 @@
 -- One call after another of a run.
 use mathlib.Core.List.{List, [], _∷_, _++_, map}
 use mathlib.Core.Path.{_≡_, refl, sym, ap, subst, _∙_}
-use Prim.Native.Nat.{ℕ, _+_, _≤_, _<_}
+use mathlib.Core.Logic.{⊎-elim}
+use Prim.Native.Nat.{ℕ, zero, suc, _+_, _-_, _≤_, _<_, min}
+use native.Mathlib.Numerals.{add-one}
+use native.Mathlib.Omega.{arith}
 use denote.Ref.{RefT}
-use lib.ListN.{length, getD, drop}
-use Rattle.std.proofs.shelf.Lists.{append-assoc, append-nil, drop-all, drop-more, map-append}
+use lib.ListN.{length, getD, set, take, drop}
+use Rattle.std.proofs.str.Laws.{order}
+use Rattle.std.proofs.shelf.Lists.{append-assoc, append-nil, drop-all, drop-drop, drop-more, map-append, take-all}
 use Rattle.std.specs.declared.result.Result.{Result}
 use Rattle.std.specs.declared.result.Result.the-variants.{Ok, Err}
 use Rattle.spoc.specs.Sealing.{Sealing}
@@ -119,3 +123,28 @@ goes-all S x m calls v x′ m′ i goes h w s =
     let g = goes w s in
     let at = subst (λ cs. Reached S w (map plain-call calls) (map told v) (g .0) cs) (ap (map plain-call) (drop-all i calls h)) (g .2) in
     (sym (append-nil (map told v)) ∙ at .answers, g .1 .medium ∙ at .medium)
+
+-- ---- slots
+
+-- as many calls as there are slots
+pub part-is : (xs : List Call) (a k : ℕ) → k ≡ min (length xs) a → take (k - 0) xs ≡ take a xs
+part-is xs a k e =
+    ⊎-elim
+    (λ less. let same : k - 0 ≡ a = omega arith in ap (λ n. take n xs) same)
+    (λ more. take-all (k - 0) xs (omega arith) ∙ sym (take-all a xs (omega arith)))
+    (order a (length xs))
+
+pub called : (xs ys : List Call) (i : ℕ) (d x : Call) → xs ≡ ys → getD xs i d ≡ x → getD ys i d ≡ x
+called xs ys i d x e h = subst (λ (z : List Call). getD z i d ≡ x) e h
+
+drop-suc-set : {X : Type 0} (xs : List X) (i : ℕ) (y : X) → drop (suc i) (set xs i y) ≡ drop (suc i) xs
+drop-suc-set [] i y = refl
+drop-suc-set (x ∷ xs) zero y = refl
+drop-suc-set (x ∷ xs) (suc i) y = drop-suc-set xs i y
+
+-- the slots after one that is written stay
+pub others-stay : {X : Type 0} (xs ys zs : List X) (i : ℕ) (y : X) → ys ≡ set xs i y → drop i xs ≡ drop i zs → drop (i + 1) ys ≡ drop (i + 1) zs
+others-stay xs ys zs i y e h =
+    ap (drop (i + 1)) e
+    ∙ ap (λ n. drop n (set xs i y)) (add-one i) ∙ drop-suc-set xs i y ∙ ap (λ n. drop n xs) (sym (add-one i))
+    ∙ sym (drop-drop 1 i xs) ∙ ap (drop 1) h ∙ drop-drop 1 i zs

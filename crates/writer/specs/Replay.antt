@@ -2,11 +2,8 @@
 use mathlib.Core.List.{List, map}
 use mathlib.Core.Path.{_≡_}
 use Prim.Native.Nat.{ℕ}
-use Rattle.std.specs.Of.Vec.{vec-items}
-use Rattle.std.specs.declared.alloc.Global.{Global}
+use lib.ListN.{take, drop}
 use Rattle.std.specs.declared.result.Result.{Result}
-use Rattle.std.specs.declared.result.Result.the-variants.{Ok, Err}
-use Rattle.std.specs.declared.vec.Vec.{Vec}
 use Rattle.cards.specs.Faults.{told}
 use Rattle.cards.specs.Format.{a-sheet}
 use Rattle.cards.specs.Runs.{Run}
@@ -20,7 +17,8 @@ abbrev pub plain-call : Call → plain.Call
 plain-call (Append c e b) = plain.append (a-sheet c e (b .now))
 plain-call Close = plain.close
 
--- what a replay answers, and leaves of a medium m: the run's, or m where there is no memory for the answers
-abbrev pub Ran : {E : Type 0} → Result (Vec (Result ℕ CardFault) Global) E → List ℕ → List ℕ → Run → Type 0
-Ran (Ok v) m m′ x = (map told (vec-items v) ≡ x .answers) × (m′ ≡ x .medium)
-Ran (Err e) m m′ x = m′ ≡ m
+-- what a replay of n calls leaves: their answers in the first n slots, the others as they were, and the run's medium
+pub record Ran (n : ℕ) (before after : List (Result ℕ CardFault)) (medium : List ℕ) (x : Run) : Type 0 where
+  pub answers : map told (take n after) ≡ x .answers
+  pub others : drop n after ≡ drop n before
+  pub medium-is : medium ≡ x .medium

@@ -1,5 +1,6 @@
 ghost use mathlib.Core.List.{map};
 ghost use mathlib.Core.Path.{_≡_};
+ghost use lib.ListN.{length, take};
 ghost use Rattle.spoc.specs.Sealing.{spoc as spoc-of};
 ghost use Rattle.cards.specs.Claims.{Runs-hold};
 ghost use Rattle.cards.specs.Plain.{Plain};
@@ -10,8 +11,6 @@ use crate::writer::Unclosed;
 use crate::writer::Writer;
 use cards::CardFault;
 use spoc::Suite;
-use std::alloc::AllocError;
-use std::alloc::Global;
 
 // A call of a writer, its medium left out.
 #[derive(Clone, Copy)]
@@ -24,45 +23,47 @@ pub enum Call<'a> {
     Close,
 }
 
-// Makes the calls one after the other, each on the medium that the call before left, and answers what each answered. An accepted close comes last.
+// Makes the calls one after the other, each on the medium that the call before left, and puts what each answers into its slot. An accepted close comes last.
+// As many calls are made as there are slots; the answer is how many were made, and the slots after them stay.
 //
 // Answers and medium are those of the plain writer. Over every suite, a writer that has had only append and close since start never seals twice under
 // one nonce, and its closed card reads as the accepted sheets, in order.
 pub fn replay<const B: usize, S: Suite<B> + Drop>(
-    heap: Global,
     writer: Writer<B, S>,
     medium: &mut [u8],
     calls: &[Call<'_>],
-) -> Result<Vec<Result<usize, CardFault>>, AllocError>
-    ensures same { λ r. ⌜ ((w : Plain) → Stands writer (now (medium .entry)) w → Ran r (now (medium .entry)) (now (medium .exit)) (run (spoc-of (S·Bijection .meaning) (S·SuiteModel .plan)) w (map plain-call (now (calls .entry))))) ⌝ }
+    answers: &mut [Result<usize, CardFault>],
+) -> usize
+    ensures same { λ r. ⌜ ((w : Plain) → Stands writer (now (medium .entry)) w → Ran r (now (answers .entry)) (now (answers .exit)) (now (medium .exit)) (run (spoc-of (S·Bijection .meaning) (S·SuiteModel .plan)) w (map plain-call (take (length (now (answers .entry))) (now (calls .entry)))))) ⌝ }
     ensures holds { λ _. ⌜ Runs-hold (spoc-of (S·Bijection .meaning) (S·SuiteModel .plan)) ⌝ }
 {
-    let mut answers = Vec::with_capacity(heap, calls.len())?;
+    let count = calls.len().min(answers.len());
     let mut open = writer;
-    for call in calls {
+    let mut made = 0;
+    for call in &calls[0..count] {
         match *call {
             Call::Append {
                 cell,
                 edition,
                 body,
             } => {
-                let answer = open.append(medium, cell, edition, body);
-                answers.push_reserved(answer);
+                answers[made] = open.append(medium, cell, edition, body);
             }
             Call::Close => {
                 match open.close(medium) {
                     Ok(length) => {
-                        answers.push_reserved(Ok(length));
-                        return Ok(answers);
+                        answers[made] = Ok(length);
+                        return made + 1;
                     }
                     Err(unclosed) => {
                         let Unclosed { writer, fault } = unclosed;
                         open = writer;
-                        answers.push_reserved(Err(fault));
+                        answers[made] = Err(fault);
                     }
                 }
             }
         }
+        made += 1;
     }
-    Ok(answers)
+    made
 }
