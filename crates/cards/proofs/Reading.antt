@@ -152,7 +152,7 @@ module _ (S : Sealing) (L : Laws S) (key : List ℕ) where
     pub few : length xs ≤ 512
     pub is : bytes ≡ card S key number xs
 
-  from-bytes : (bs : List ℕ) (xs : List Sheet) → Octets bs → check-bytes S key bs ≡ Ok xs → From-card bs xs
+  pub from-bytes : (bs : List ℕ) (xs : List Sheet) → Octets bs → check-bytes S key bs ≡ Ok xs → From-card bs xs
   from-bytes bs xs o h =
       let x = header-passed S key bs xs h in
       let y = header-from (S .version) bs o (x .long) (x .marked) (x .version) in
@@ -167,10 +167,14 @@ module _ (S : Sealing) (L : Laws S) (key : List ℕ) where
         is = sym (take-append-drop 13 bs) ∙ ap (λ (t : List ℕ). t ++ drop 13 bs) (y .is) ∙ ap (λ (t : List ℕ). hd ++ t) (z .is) ∙ sym (card-is S L key (y .number) xs);
       }
 
+  -- bytes that check passes read as what it passed
+  pub passed-reads : (bs : List ℕ) (xs : List Sheet) → length key ≡ 16 → Octets bs → check-bytes S key bs ≡ Ok xs → Reads S key bs xs
+  passed-reads bs xs hk o h =
+      let f = from-bytes bs xs o h in
+      subst (λ (z : List ℕ). Reads S key z xs) (sym (f .is)) (card-reads S L key (f .number) xs hk (f .fit) (f .few))
+
   pub reads-card : (bs : List ℕ) (sheets : List Sheet) → Octets bs → Reads S key bs sheets → From-card bs sheets
   reads-card bs sheets o a =
       let x = checked-back S key bs 4096 (a .card) (a .passes 4096 (lit≤ tt)) in
       let y = passed-back S key bs (a .card) (check-bytes S key bs) (x .1) in
-      let f = from-bytes bs (y .0) o (y .1) in
-      let b = subst (λ (z : List ℕ). Reads S key z (y .0)) (sym (f .is)) (card-reads S L key (f .number) (y .0) (x .0) (f .fit) (f .few)) in
-      subst (From-card bs) (reads-once S key bs (y .0) sheets b a) f
+      subst (From-card bs) (reads-once S key bs (y .0) sheets (passed-reads bs (y .0) (x .0) o (y .1)) a) (from-bytes bs (y .0) o (y .1))

@@ -5,6 +5,7 @@ use Rattle.cards.specs.Faults.{Fault}
 use Rattle.cards.specs.Reader.{Card}
 use Rattle.reader.specs.declared.card.Card as code
 
+-- what a card holds
 abbrev pub shown : code.Card → Card
 shown c = record { bytes = c .bytes .now; key = c .key; version = c .version; rate = c .rate; count = c .count }
 

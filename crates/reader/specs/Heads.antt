@@ -10,6 +10,7 @@ use Rattle.cards.specs.Format.{Sheet}
 use Rattle.cards.specs.Reader.{cell-of, edition-of, length-of}
 use Rattle.reader.specs.declared.parts.SheetHead.{SheetHead}
 
+-- a head of these fields
 abbrev pub a-head : ℕ → ℕ → ℕ → SheetHead
 a-head c e l = record { cell = c; edition = e; «length» = l }
 

@@ -15,10 +15,12 @@ use Rattle.cards.specs.declared.SealedFault.{SealedFault}
 use Rattle.reader.specs.declared.parts.Record as code
 use Rattle.reader.specs.declared.parts.Record.the-variants as part
 
+-- a record of the program, as the reader's
 abbrev pub of-part : code.Record → Record
 of-part (part.Sheet c e b t) = sheet c e (b .now) (t .now)
 of-part (part.End t) = last (t .now)
 
+-- what the answers of the record layer and of the cipher say
 abbrev pub said : Result code.Record RecordFault → Result Record Fault
 said (Ok x) = Ok (of-part x)
 said (Err f) = Err (of-record f)
