@@ -1,4 +1,6 @@
 // The calls of a workbench script, over any permutation and any suite: what each reads, makes and prints.
+#![tactic(auto)]
+
 mod buffers;
 mod cipher;
 mod lines;

@@ -1,4 +1,6 @@
 // Tests of writer and reader at the limits: the lengths of media, bodies, scratch and buffers, the number of sheets, the order of questions, and the bytes that stay.
+#![tactic(auto)]
+
 #[cfg(test)]
 mod tests {
     use cards::CardFault;

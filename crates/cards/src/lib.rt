@@ -1,4 +1,6 @@
 // Cards: their format and faults, the plain writer and the reader by definition, and what holds of them.
+#![tactic(auto)]
+
 mod fault;
 mod format;
 

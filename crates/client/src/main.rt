@@ -1,4 +1,6 @@
 // A client: writes a card, checks it, finds a cell and reads its sheet.
+#![tactic(auto)]
+
 use anyhow::anyhow;
 use permutations::Bench;
 use reader::{Card, check, find, sheet};

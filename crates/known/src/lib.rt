@@ -1,4 +1,6 @@
 // Bytes that are known beforehand, proved together, and the card among them.
+#![tactic(auto)]
+
 ghost use Rattle.std.specs.Prelude.{◌≡◌};
 ghost use Rattle.cards.specs.Faults.{told};
 ghost use Rattle.known.specs.Known.{bare_answer, bare_medium, KnownBytes};

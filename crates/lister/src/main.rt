@@ -1,4 +1,6 @@
 // Lists a card that is read from standard input: 16 bytes of key, and then the card.
+#![tactic(auto)]
+
 mod listing;
 #[cfg(test)]
 mod tests;

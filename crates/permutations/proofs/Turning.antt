@@ -1,8 +1,8 @@
 -- A word turned by way of longer words. Assumes nothing.
-use Rattle.std.proofs.Common.{◌≡◌, ℕ, zero, suc, ◌+◌, ◌-◌, ◌*◌, ◌/◌, ◌%◌, ◌^◌, ◌<◌, ◌≤◌, sym, refl, ap, ◌∙◌, subst, ap₂, lt_of_lt_of_le, add-zero, mod-eq_of_lt, mul_assoc, mul_comm, add-mul, add_comm, arith, pow_pos, pow_mono, pow-add, shl_exact, shr-shr, shr_lt}
+use Rattle.std.proofs.Common.{◌≡◌, ℕ, ◌+◌, ◌-◌, ◌*◌, ◌/◌, ◌%◌, ◌^◌, ◌<◌, ◌≤◌, sym, ap, ◌∙◌, subst, ap₂, lt_of_lt_of_le, add-zero, mod-eq_of_lt, mul_assoc, mul_comm, add-mul, add_comm, arith, pow_pos, pow_mono, pow-add, shl_exact, shr-shr, shr_lt}
 use native.Mathlib.Nat.{mul-mod_left, div-eq_of_lt, mul-add-div_right}
 use lib.Arith.{digits_lt}
-use lib.Bits.{bit_and, bit_or, or_shr, or_shifted, or_zero_r}
+use lib.Bits.{bit_or, or_shr, or_shifted, or_zero_r}
 use lib.Pow.{shl-shr, field, mod-pow-add, high, low}
 use Rattle.permutations.specs.Simeck.{turned}
 

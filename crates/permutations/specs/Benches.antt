@@ -1,12 +1,11 @@
 -- The bench permutation and its inverse undo each other. Assumes nothing.
-use Rattle.std.specs.Prelude.{◌≡◌, ℕ, zero, suc, ◌+◌, ◌-◌, ◌*◌, ◌^◌, ◌<◌, ◌≤◌, min, List, [], ◌∷◌, ◌++◌, length, get_or, take, drop, refl}
-use Rattle.std.proofs.Common.{sym, subst, ◌∙◌, append-nil, arith, take_at, drop_at, take-take}
+use Rattle.std.specs.Prelude.{◌≡◌, ℕ, List, [], ◌++◌, length, take, drop, refl}
+use Rattle.std.proofs.Common.{◌∙◌, append-nil, arith, take_at, drop_at, take-take}
 use Rattle.std.proofs.Math.Path.{ap, ap₂}
 use borrow.Rule.Slice.PartMut.{put_mid}
 use Rattle.std.proofs.lemmas.List.{take_all, drop_all}
 use Rattle.std.proofs.Math.ListN.{take-append-drop, length-append, length-take, length-drop}
 use Rattle.std.proofs.Math.Seq.{take-append-le}
-use Rattle.std.specs.List.{AllByRecursion as All}
 use Rattle.std.proofs.ByRecursion.{All-append, All-take, All-drop}
 use Rattle.permutations.specs.Permutation.{Bytes, Bijective, Walks, stepped, unstepped}
 use Rattle.permutations.specs.Bench.{forward, backward, bench, bench_walk}

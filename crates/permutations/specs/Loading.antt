@@ -1,7 +1,7 @@
 -- The permutation on bytes and its inverse undo each other, for every width of a word in bytes. Assumes nothing.
-use Rattle.std.specs.Prelude.{◌≡◌, ℕ, zero, suc, ◌+◌, ◌-◌, ◌*◌, ◌/◌, ◌%◌, ◌^◌, ◌<◌, ◌≤◌, List, [], ◌∷◌, ◌++◌, length, get_or, take, slice_index, slice_index_or, refl}
+use Rattle.std.specs.Prelude.{◌≡◌, ℕ, zero, suc, ◌*◌, ◌^◌, ◌<◌, ◌≤◌, List, length, get_or, take, slice_index, slice_index_or, refl}
 use Rattle.std.proofs.Math.Path.{sym, ap}
-use Rattle.std.proofs.Common.{ap₂, subst, ◌∙◌, pow-suc, mul-suc, mul-zero, mul_comm, arith, pow-add, add-one}
+use Rattle.std.proofs.Common.{subst, ◌∙◌, pow-suc, mul-suc, arith, pow-add, add-one}
 use Rattle.std.proofs.Math.Seq.{take_all}
 use Rattle.std.proofs.lemmas.List.{take_more}
 use Rattle.std.specs.List.{AllByRecursion as All}
@@ -9,11 +9,11 @@ use Rattle.std.proofs.ByRecursion.{All-get_or, All-take}
 use Rattle.permutations.specs.declared.steps.State.{State}
 use Rattle.permutations.specs.declared.constants.StepConstants.{StepConstants}
 use Rattle.permutations.specs.Permutation.{Bytes, Bijective, Walks, stepped, unstepped}
-use Rattle.permutations.specs.Bytes.{load, store, loads, stores}
+use Rattle.permutations.specs.Bytes.{loads, stores}
 use Rattle.permutations.specs.Steps.{Small, step, unstep, steps, unsteps, FitsIn}
 use Rattle.permutations.specs.Light.{words, of_words, load_state, store_state, forward, backward, forward_step, backward_step, light, light_walk}
 use Rattle.permutations.specs.Constants.{row}
-use Rattle.permutations.specs.Words.{Byte, loads_stores, stores_loads, loads_lt, length_loads, length_stores, stores_bytes}
+use Rattle.permutations.specs.Words.{loads_stores, stores_loads, loads_lt, length_loads, length_stores, stores_bytes}
 use Rattle.permutations.specs.Walking.{step_fit, unstep_fit, steps_fit, unsteps_fit, unstep_step, step_unstep, unsteps_steps, steps_unsteps, steps_more, unsteps_push}
 
 pub pow_bytes : (w : ℕ) → 256 ^ w ≡ 2 ^ (8 * w)

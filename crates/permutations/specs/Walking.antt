@@ -1,18 +1,17 @@
 -- A step and its inverse undo each other, and so do the steps of a table. Assumes nothing.
-use Rattle.std.specs.Prelude.{◌≡◌, ℕ, zero, suc, ◌+◌, ◌-◌, ◌*◌, ◌/◌, ◌%◌, ◌^◌, ◌<◌, ◌≤◌, Bool, true, false, cond, List, [], ◌∷◌, ◌++◌, length, take, drop, Ok, Err, Result, nat_lt, slice_index_or, refl}
-use Rattle.std.proofs.Common.{sym, ap, ◌∙◌, arith, pow_pos, pow_mono}
+use Rattle.std.specs.Prelude.{◌≡◌, ℕ, ◌+◌, ◌-◌, ◌^◌, ◌<◌, ◌≤◌, Bool, true, false, cond, List, [], ◌∷◌, ◌++◌, length, take, drop, Ok, Err, Result, nat_lt, slice_index_or, refl}
+use Rattle.std.proofs.Common.{ap, ◌∙◌, arith, pow_mono}
 use Rattle.permutations.specs.declared.permutation.NoSuchStep.{NoSuchStep}
 use Rattle.permutations.specs.Constants.{row}
 use Rattle.permutations.specs.Light.{row_at}
 use Rattle.std.proofs.lemmas.List.{take_more, drop_more}
 use Rattle.std.proofs.lemmas.Bool.{ltb-true}
-use Rattle.std.specs.Int.Bits.{bit_xor}
 use Rattle.std.proofs.lemmas.Nat.{xor_lt}
 use Rattle.std.specs.List.{AllByRecursion as All}
 use Rattle.permutations.specs.declared.simeck.Subblock.{Subblock}
 use Rattle.permutations.specs.declared.steps.State.{State}
 use Rattle.permutations.specs.declared.constants.StepConstants.{StepConstants}
-use Rattle.permutations.specs.Simeck.{block, box, unbox, Fit}
+use Rattle.permutations.specs.Simeck.{block, box, Fit}
 use Rattle.permutations.specs.Steps.{xored, ones_but, step, unstep, steps, unsteps, Small, FitsIn}
 use Rattle.permutations.specs.Xors.{xor_mix}
 use Rattle.permutations.specs.Boxes.{unbox_box, box_unbox, box_fit, unbox_fit}

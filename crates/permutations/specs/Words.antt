@@ -1,5 +1,5 @@
 -- What is stored is loaded again. Assumes nothing.
-use Rattle.std.specs.Prelude.{◌≡◌, ℕ, zero, suc, ◌+◌, ◌-◌, ◌*◌, ◌/◌, ◌%◌, ◌^◌, ◌<◌, ◌≤◌, List, [], ◌∷◌, ◌++◌, length, take, drop, slice_index, refl}
+use Rattle.std.specs.Prelude.{◌≡◌, ℕ, zero, suc, ◌+◌, ◌*◌, ◌/◌, ◌%◌, ◌^◌, ◌<◌, ◌≤◌, List, [], ◌∷◌, ◌++◌, length, take, drop, slice_index, refl}
 use Rattle.std.proofs.Common.{sym, ap, ap₂, subst, ◌∙◌, append-nil, append_assoc, mod-lt, mod-eq_of_lt, mul_assoc, mul-suc, mul-zero, suc-mul, zero-mul, mul_comm, mul-le-mul_left, div-one, arith, length-append, length-take, length-drop, take-append-drop, take_at, drop_at, drop-drop, add-one}
 use Rattle.std.proofs.Math.Nat.{pow-succ', one-le-pow, mod-one, mul-add-div_right, mul-add-mod_self_right}
 use Rattle.std.proofs.Math.Arith.{digits_lt, digits_div, mod-mul}

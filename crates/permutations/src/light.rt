@@ -14,9 +14,9 @@ use crate::steps::{State, all_back, all_forward, step_back, step_forward};
 use crate::width::{Bits24, Bits32, Width};
 
 fn word_at<W: Width>(s: &[u8], i: usize) -> u32
-    requires { (i < 8) × (length s.now ≡ w * 8) }
-    ensures value { result ≡ slice_index (loads w 8 s.now) i }
-    ensures fits { result < 2 ^ m }
+    requires { (i < 8) × (length s.now ≡ W.w * 8) }
+    ensures value { result ≡ slice_index (loads W.w 8 s.now) i }
+    ensures fits { result < 2 ^ W.m }
 {
     let width = W::word_bytes();
     W::load_word(&s[i * width..i * width + width])
@@ -24,9 +24,9 @@ fn word_at<W: Width>(s: &[u8], i: usize) -> u32
 
 // The state in words, the highest byte of each first.
 fn load_words<W: Width>(s: &[u8]) -> State
-    requires { length s.now ≡ w * 8 }
-    ensures value { result ≡ load_state w s.now }
-    ensures fits { FitsIn m result }
+    requires { length s.now ≡ W.w * 8 }
+    ensures value { result ≡ load_state W.w s.now }
+    ensures fits { FitsIn W.m result }
 {
     State {
         s0: Subblock {
@@ -49,8 +49,8 @@ fn load_words<W: Width>(s: &[u8]) -> State
 }
 
 fn store_words<W: Width>(s: State, out: &mut [u8])
-    requires { length out.old ≡ w * 8 }
-    ensures { out.new ≡ store_state w s }
+    requires { length out.old ≡ W.w * 8 }
+    ensures { out.new ≡ store_state W.w s }
 {
     let width = W::word_bytes();
     let all = [
@@ -62,16 +62,16 @@ fn store_words<W: Width>(s: State, out: &mut [u8])
 }
 
 fn forward_bytes<W: Width>(state: &mut [u8])
-    requires { length state.old ≡ w * 8 }
-    ensures { state.new ≡ forward w u table state.old }
+    requires { length state.old ≡ W.w * 8 }
+    ensures { state.new ≡ forward W.w W.u W.table state.old }
 {
     let s = load_words::<W>(state);
     store_words::<W>(all_forward::<W>(s), state);
 }
 
 fn back_bytes<W: Width>(state: &mut [u8])
-    requires { length state.old ≡ w * 8 }
-    ensures { state.new ≡ backward w u table state.old }
+    requires { length state.old ≡ W.w * 8 }
+    ensures { state.new ≡ backward W.w W.u W.table state.old }
 {
     let s = load_words::<W>(state);
     store_words::<W>(all_back::<W>(s), state);
@@ -79,7 +79,7 @@ fn back_bytes<W: Width>(state: &mut [u8])
 
 // The constants of step i, if there is one.
 fn constants_at<W: Width>(i: usize) -> Result<StepConstants, NoSuchStep>
-    ensures { result ≡ row_at table i }
+    ensures { result ≡ row_at W.table i }
 {
     if i >= STEPS {
         return Err(NoSuchStep);
@@ -88,9 +88,9 @@ fn constants_at<W: Width>(i: usize) -> Result<StepConstants, NoSuchStep>
 }
 
 fn step_bytes<W: Width>(state: &mut [u8], i: usize) -> Result<(), NoSuchStep>
-    requires { length state.old ≡ w * 8 }
-    ensures answer { result ≡ step_answer (light_walk w u table) i }
-    ensures state { state.new ≡ step_state (light_walk w u table) (forward_step w u table) i state.old }
+    requires { length state.old ≡ W.w * 8 }
+    ensures answer { result ≡ step_answer (light_walk W.w W.u W.table) i }
+    ensures state { state.new ≡ step_state (light_walk W.w W.u W.table) (forward_step W.w W.u W.table) i state.old }
 {
     let constants = constants_at::<W>(i)?;
     let s = load_words::<W>(state);
@@ -99,9 +99,9 @@ fn step_bytes<W: Width>(state: &mut [u8], i: usize) -> Result<(), NoSuchStep>
 }
 
 fn unstep_bytes<W: Width>(state: &mut [u8], i: usize) -> Result<(), NoSuchStep>
-    requires { length state.old ≡ w * 8 }
-    ensures answer { result ≡ step_answer (light_walk w u table) i }
-    ensures state { state.new ≡ step_state (light_walk w u table) (backward_step w u table) i state.old }
+    requires { length state.old ≡ W.w * 8 }
+    ensures answer { result ≡ step_answer (light_walk W.w W.u W.table) i }
+    ensures state { state.new ≡ step_state (light_walk W.w W.u W.table) (backward_step W.w W.u W.table) i state.old }
 {
     let constants = constants_at::<W>(i)?;
     let s = load_words::<W>(state);

@@ -13,14 +13,14 @@ pub struct Subblock {
 // What round k xors in: all ones but for the lowest bit, which is bit k of the round constant.
 fn round_word<W: Width>(rc: u8, k: u32) -> u32
     requires { k < 8 }
-    ensures { result ≡ gamma m rc k }
+    ensures { result ≡ gamma W.m rc k }
 {
     W::ones() - 1 + ((rc >> k) & 1) as u32
 }
 
 fn simeck_round<W: Width>(b: Subblock, g: u32) -> Subblock
-    requires { Fit m b }
-    ensures { result ≡ round m g b }
+    requires { Fit W.m b }
+    ensures { result ≡ round W.m g b }
 {
     let x = b.left;
     Subblock {
@@ -30,8 +30,8 @@ fn simeck_round<W: Width>(b: Subblock, g: u32) -> Subblock
 }
 
 fn simeck_unround<W: Width>(b: Subblock, g: u32) -> Subblock
-    requires { Fit m b }
-    ensures { result ≡ unround m g b }
+    requires { Fit W.m b }
+    ensures { result ≡ unround W.m g b }
 {
     let x = b.right;
     Subblock {
@@ -47,9 +47,9 @@ pub(crate) fn two_boxes<W: Width>(
     rc0: u8,
     rc1: u8,
 ) -> (Subblock, Subblock)
-    requires { (Fit m a) × (Fit m b) }
-    ensures first { result.0 ≡ box m rc0 u a }
-    ensures second { result.1 ≡ box m rc1 u b }
+    requires { (Fit W.m a) × (Fit W.m b) }
+    ensures first { result.0 ≡ box W.m rc0 W.u a }
+    ensures second { result.1 ≡ box W.m rc1 W.u b }
 {
     let mut x = a;
     let mut y = b;
@@ -67,9 +67,9 @@ pub(crate) fn two_unboxes<W: Width>(
     rc0: u8,
     rc1: u8,
 ) -> (Subblock, Subblock)
-    requires { (Fit m a) × (Fit m b) }
-    ensures first { result.0 ≡ unbox m rc0 u a }
-    ensures second { result.1 ≡ unbox m rc1 u b }
+    requires { (Fit W.m a) × (Fit W.m b) }
+    ensures first { result.0 ≡ unbox W.m rc0 W.u a }
+    ensures second { result.1 ≡ unbox W.m rc1 W.u b }
 {
     let mut x = a;
     let mut y = b;

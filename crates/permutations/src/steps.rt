@@ -25,7 +25,7 @@ fn xor_blocks(a: Subblock, b: Subblock) -> Subblock
 
 // What a step xors in: all ones but for the last byte, which is the step constant.
 fn step_block<W: Width>(sc: u8) -> Subblock
-    ensures { result ≡ ones_but m sc }
+    ensures { result ≡ ones_but W.m sc }
 {
     let ones = W::ones();
     Subblock {
@@ -35,8 +35,8 @@ fn step_block<W: Width>(sc: u8) -> Subblock
 }
 
 pub(crate) fn step_forward<W: Width>(s: State, k: StepConstants) -> State
-    requires { FitsIn m s }
-    ensures { result ≡ step m u k s }
+    requires { FitsIn W.m s }
+    ensures { result ≡ step W.m W.u k s }
 {
     let (b1, b3) = two_boxes::<W>(s.s1, s.s3, k.rc0, k.rc1);
     State {
@@ -48,8 +48,8 @@ pub(crate) fn step_forward<W: Width>(s: State, k: StepConstants) -> State
 }
 
 pub(crate) fn step_back<W: Width>(s: State, k: StepConstants) -> State
-    requires { FitsIn m s }
-    ensures { result ≡ unstep m u k s }
+    requires { FitsIn W.m s }
+    ensures { result ≡ unstep W.m W.u k s }
 {
     let (s1, s3) = two_unboxes::<W>(s.s0, s.s2, k.rc0, k.rc1);
     State {
@@ -61,8 +61,8 @@ pub(crate) fn step_back<W: Width>(s: State, k: StepConstants) -> State
 }
 
 pub(crate) fn all_forward<W: Width>(start: State) -> State
-    requires { FitsIn m start }
-    ensures { result ≡ steps m u table start }
+    requires { FitsIn W.m start }
+    ensures { result ≡ steps W.m W.u W.table start }
 {
     let mut s = start;
     for i in 0..STEPS {
@@ -72,8 +72,8 @@ pub(crate) fn all_forward<W: Width>(start: State) -> State
 }
 
 pub(crate) fn all_back<W: Width>(start: State) -> State
-    requires { FitsIn m start }
-    ensures { result ≡ unsteps m u table start }
+    requires { FitsIn W.m start }
+    ensures { result ≡ unsteps W.m W.u W.table start }
 {
     let mut s = start;
     for i in (0..STEPS).rev() {

@@ -1,4 +1,6 @@
 // The reader of cards: check, count, sheet and find.
+#![tactic(auto)]
+
 mod card;
 mod empty;
 mod finding;

@@ -1,4 +1,6 @@
 // The words of a workbench script: what a line holds, read word by word, and bytes as they are printed.
+#![tactic(auto)]
+
 mod bytes;
 mod line;
 mod names;

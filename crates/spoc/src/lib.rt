@@ -1,4 +1,6 @@
 // SpoC over every suite: the suite rule, seal and open, and three suites.
+#![tactic(auto)]
+
 mod bench;
 mod claims;
 mod constants;

@@ -1,4 +1,6 @@
 // Tests of SpoC: the published vectors of SpoC-64 and SpoC-128, and the lengths at which seal and open refuse.
+#![tactic(auto)]
+
 #[cfg(test)]
 mod tests {
     use permutations::Bench;

@@ -1,4 +1,6 @@
 // The workbench: reads a script from standard input, one call to a line, and prints what each line answers.
+#![tactic(auto)]
+
 mod calls;
 mod cipher;
 

@@ -1,4 +1,6 @@
 // The writer of cards: start, append and close, and whole runs of calls.
+#![tactic(auto)]
+
 mod calls;
 mod runs;
 mod seals;

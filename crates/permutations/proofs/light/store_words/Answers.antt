@@ -1,4 +1,4 @@
-use Rattle.std.proofs.Common.{◌≡◌, ℕ, ◌+◌, ◌-◌, ◌*◌, ◌≤◌, length, take, sym, refl, ap, ◌∙◌, subst, mul_comm, zero-mul, arith, take_all, rules}
+use Rattle.std.proofs.Common.{◌≡◌, ℕ, ◌+◌, ◌*◌, ◌≤◌, length, take, sym, ap, ◌∙◌, subst, mul_comm, zero-mul, arith, take_all, rules}
 use Rattle.permutations.specs.Bytes.{stores}
 use Rattle.permutations.specs.Light.{words}
 use Rattle.permutations.specs.Words.{part_end, stores_more}

@@ -1,6 +1,5 @@
-use Rattle.std.proofs.Common.{◌≡◌, ◌+◌, ◌-◌, ◌/◌, ◌%◌, ◌^◌, ◌≤◌, ap, ◌∙◌, arith, pow_mono}
-use lib.Bits.{bit_and, and_mask}
-use Rattle.permutations.specs.Simeck.{gamma}
+use Rattle.std.proofs.Common.{◌/◌, ◌^◌, ◌≤◌, arith, pow_mono}
+use lib.Bits.{and_mask}
 use Rattle.permutations.proofs.simeck.round_word.Goals as goal
 
 pub overflow_sub-result : goal.overflow_sub-result

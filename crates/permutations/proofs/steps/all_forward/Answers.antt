@@ -1,4 +1,4 @@
-use Rattle.std.proofs.Common.{◌≡◌, ◌+◌, ◌<◌, length, take, sym, refl, ap, ◌∙◌, subst, ap₂, arith, take_all}
+use Rattle.std.proofs.Common.{◌<◌, length, sym, refl, ap, ◌∙◌, subst, ap₂, arith, take_all}
 use Rattle.std.proofs.ByRecursion.{All-get_or}
 use Rattle.permutations.specs.Constants.{row}
 use Rattle.permutations.specs.Steps.{step, steps, Small, FitsIn}

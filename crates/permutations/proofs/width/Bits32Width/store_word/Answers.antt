@@ -1,4 +1,4 @@
-use Rattle.std.proofs.Common.{take, drop, ap, ◌∙◌}
+use Rattle.std.proofs.Common.{◌∙◌}
 use Rattle.permutations.specs.Words.{store_4}
 use Rattle.permutations.proofs.width.Bits32Width.store_word.Goals as goal
 
