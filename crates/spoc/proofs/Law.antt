@@ -15,7 +15,6 @@ use Rattle.spoc.proofs.Blocks.{blocks_more, cut_joined, cut_fits}
 use Rattle.spoc.specs.Ends.{one_mask_tells, key_tells}
 use Rattle.spoc.proofs.Feeds.{feeds_distinct}
 use Rattle.spoc.proofs.Masks.{length_rated}
-use Rattle.permutations.specs.Permutation.{Bytes}
 use Rattle.spoc.specs.Sealing.{Octets}
 use Rattle.spoc.proofs.Octet.{ciphertext_octets, tag_octets, plaintext_octets}
 use Rattle.spoc.proofs.Opened.{blocks_plains}

@@ -19,4 +19,4 @@ loop-block-preserved g c =
     let gone = turn_left p q k 32 c.args.ends x t rest rate size c.loop-block.left cb c.rate_bytes-rate.ensures inv.2 inv.3 st.1.0 st.1.1 st.1.2 c.control_of-control.ensures in
     let next = turn p q k 32 c.args.ends x t rest rate size c.loop-block.left cb c.rate_bytes-rate.ensures inv.2 inv.3 st.1.0 st.1.1 st.1.2 c.control_of-control.ensures
     c.loop-block.state c.step.new.state _ c.step.ensures inv.4 in
-    (tt, search rules, search rules, gone, next)
+    (search rules, search rules, search rules, gone, next)

@@ -27,7 +27,7 @@ loop-block-preserved g c =
     c.loop-block.state c.open_block.new.state _ _ c.loop-block.out c.open_block.new.out at c.open_block.ensures.out c.open_block.ensures.state (search rules) inv.5 inv.6 in
     let part : length c.open_block.new.out ≡ length y = ap length c.open_block.ensures.out ∙ length_rated p q k y c.loop-block.state fits in
     let kept = drop-put_mid at ((at + length y) - at) c.loop-block.out c.open_block.new.out (length c.args.ciphertext.now) (omega arith) (omega arith) (omega arith) in
-    (tt, search rules, search rules, gone, omega arith, done.0, done.1, kept ∙ inv.7)
+    (search rules, search rules, search rules, gone, omega arith, done.0, done.1, kept ∙ inv.7)
 
 pub returns : goal.returns
 returns g c =

@@ -28,7 +28,7 @@ loop-block-preserved g c =
     c.loop-block.state c.seal_block.new.state _ c.loop-block.out c.seal_block.new.out at c.seal_block.ensures.state c.seal_block.ensures.out (search rules) inv.6 in
     let part : length c.seal_block.new.out ≡ length x = ap length c.seal_block.ensures.out ∙ length_rated p q k x c.loop-block.state fits in
     let kept = drop-put_mid at ((at + length x) - at) c.loop-block.out c.seal_block.new.out (length c.args.message.now) (omega arith) (omega arith) (omega arith) in
-    (tt, search rules, search rules, gone, omega arith, next, text, kept ∙ inv.7)
+    (search rules, search rules, search rules, gone, omega arith, next, text, kept ∙ inv.7)
 
 pub returns : goal.returns
 returns g c =

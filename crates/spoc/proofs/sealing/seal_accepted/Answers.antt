@@ -1,4 +1,4 @@
-use Rattle.std.proofs.Common.{◌≡◌, ◌≤◌, ◌&&◌, ◌++◌, length, drop, ap, ◌∙◌, ap₂, arith, rules}
+use Rattle.std.proofs.Common.{◌≡◌, ◌&&◌, ◌++◌, length, drop, ap, ◌∙◌, ap₂}
 use Rattle.spoc.specs.Feed.{run, ended, masks, blocks, ciphers, pick}
 use Rattle.spoc.specs.Suite.{start}
 use Rattle.spoc.proofs.Sealed.{at_message, walked, end_is, text_is}
