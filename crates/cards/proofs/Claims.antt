@@ -1,14 +1,13 @@
 -- The claims on cards.
-use Rattle.std.proofs.Common.{◌≡◌, ℕ, ◌^◌, ◌<◌, ◌≤◌, List, [], ◌∷◌, ◌++◌, length, take, Some, Ok, sym, refl, ap, ◌∙◌, subst, le_refl, arith}
+use Rattle.std.proofs.Common.{◌≡◌, ℕ, ◌≤◌, List, [], ◌∷◌, ◌++◌, length, sym, ap, subst, le_refl}
 use Rattle.std.specs.List.{AllByRecursion as All}
-use Rattle.permutations.specs.Permutation.{Bytes}
-use Rattle.spoc.specs.Sealing.{Sealing, Laws, Octets}
+use Rattle.spoc.specs.Sealing.{Sealing, Laws}
 use Rattle.cards.specs.Format.{Sheet, card}
-use Rattle.cards.specs.Plain.{Plain, start}
-use Rattle.cards.specs.Runs.{Call, run, accepted}
-use Rattle.cards.specs.Claims.{Well, Reads, Writes, Gives, ReadsAsWritten, AllWritable, RunsHold, RunHolds, WellCall}
+use Rattle.cards.specs.Plain.{Plain}
+use Rattle.cards.specs.Runs.{run, accepted}
+use Rattle.cards.specs.Claims.{Well, Reads, Gives, ReadsAsWritten, AllWritable, RunsHold}
 use Rattle.cards.proofs.Records.{Fit}
-use Rattle.cards.proofs.Reading.{card_reads, reads_card, checked_back, FromCard}
+use Rattle.cards.proofs.Reading.{card_reads, reads_card, checked_back}
 use Rattle.cards.proofs.Writing.{Kept, started_kept, start_passed}
 use Rattle.cards.proofs.Runs.{card_writes, writes_card, run_shows, Closed}
 use Rattle.cards.proofs.CardOctets.{card_octets}

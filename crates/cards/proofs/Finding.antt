@@ -1,11 +1,11 @@
 -- Find on a card that reads as a list.
-use Rattle.std.proofs.Common.{◌≡◌, ℕ, ◌+◌, ◌<◌, ◌≤◌, List, ◌++◌, length, get_or, take, drop, Some, None, Ok, Err, Option, Result, sym, refl, ap, ◌∙◌, subst, le_refl, arith}
+use Rattle.std.proofs.Common.{◌≡◌, ℕ, ◌+◌, ◌<◌, List, ◌++◌, length, get_or, take, drop, Some, None, Ok, Option, sym, ap, ◌∙◌, subst, le_refl, arith}
 use Rattle.std.proofs.lemmas.Bool.Decides.{nat_tests}
 use Rattle.spoc.specs.Sealing.{Sealing}
 use Rattle.cards.specs.Faults.{Fault, fault}
 use Rattle.cards.specs.Format.{Sheet, a_sheet, nonce}
-use Rattle.cards.specs.Reader.{Card, sheet_answer, unseal, head_of, body_of, tag_of, place_of, cell_at, edition_at, Latest, Found}
-use Rattle.cards.specs.Claims.{Reads, FindTells}
+use Rattle.cards.specs.Reader.{Card, sheet_answer, unseal, head_of, body_of, tag_of, place_of, cell_at, edition_at, Found}
+use Rattle.cards.specs.Claims.{FindTells}
 
 -- the same answer serves where cells and editions are the same
 module _ (n : ℕ) (cells cells' editions editions' : ℕ → ℕ) (cell : ℕ) (c : (k : ℕ) → k < n → cells' k ≡ cells k) (e : (k : ℕ) → k < n → editions' k ≡ editions k) where

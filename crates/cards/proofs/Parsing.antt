@@ -1,13 +1,13 @@
 -- A record at the front of a list: what is written is parsed, and what is parsed was written.
-use Rattle.std.proofs.Common.{◌≡◌, ℕ, zero, suc, ◌+◌, ◌-◌, ◌*◌, ◌/◌, ◌%◌, ◌<◌, ◌≤◌, Bool, true, false, cond, ◌&&◌, eqb, ltb, leb, List, [], ◌∷◌, ◌++◌, length, get_or, take, drop, Ok, Err, Result, sym, refl, ap, ◌∙◌, subst, arith}
+use Rattle.std.proofs.Common.{◌≡◌, ℕ, ◌+◌, ◌-◌, ◌<◌, ◌≤◌, true, false, eqb, ltb, leb, List, [], ◌++◌, length, get_or, take, drop, Ok, sym, refl, ap, ◌∙◌, arith}
 use Rattle.std.specs.List.{between}
-use Rattle.std.proofs.lemmas.List.{length-append, length-take-le, length-drop, take_at, drop_at, drop-drop, take-append-drop, nil_from_length}
+use Rattle.std.proofs.lemmas.List.{length-append, take_at, drop_at, drop-drop, take-append-drop}
 use Rattle.std.proofs.lemmas.List.Edits.{length-between}
 use Rattle.std.proofs.ByRecursion.{All-get_or}
 use Rattle.std.proofs.lemmas.Bool.Decides.{nat_tests}
 use Rattle.spoc.specs.Sealing.{Octets}
 use Rattle.cards.specs.Format.{head}
-use Rattle.cards.specs.Reader.{Record, sheet, last, parse, kind_of, cell_of, edition_of, length_of, head_of, body_of, tag_of}
+use Rattle.cards.specs.Reader.{sheet, last, parse, kind_of, cell_of, edition_of, length_of, head_of, body_of, tag_of}
 use Rattle.cards.proofs.Numbers.{two_bytes, four_bytes}
 use Rattle.cards.proofs.Heads.{head_from}
 

@@ -1,9 +1,9 @@
 -- What writes to parts of a list leave.
-use Rattle.std.proofs.Common.{◌≡◌, ℕ, ◌+◌, ◌-◌, ◌≤◌, List, [], ◌∷◌, ◌++◌, length, take, drop, sym, refl, ap, ◌∙◌, subst, arith}
+use Rattle.std.proofs.Common.{◌≡◌, ℕ, ◌+◌, ◌≤◌, List, ◌++◌, length, take, drop, sym, ap, ◌∙◌, arith}
 use borrow.Rule.Slice.PartMut.{put_mid}
 use Rattle.std.proofs.lemmas.List.{take_at, drop_at, drop_all, append-nil, append_assoc, drop-drop, length-append, length-take-le}
 use Rattle.cards.specs.Plain.{overwrite}
-use Rattle.cards.proofs.Writing.{take_overwrite, length_overwrite}
+use Rattle.cards.proofs.Writing.{take_overwrite}
 
 -- the second of two parts that fill a list
 pub join_two : (a b z : List ℕ) (n m : ℕ) → length a ≡ n → length z ≡ m → put_mid n m (a ++ z) b ≡ a ++ b

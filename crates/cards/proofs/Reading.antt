@@ -1,5 +1,5 @@
 -- A card reads as its sheets, and bytes that read as sheets are their card.
-use Rattle.std.proofs.Common.{◌≡◌, ℕ, zero, suc, ◌+◌, ◌^◌, ◌<◌, ◌≤◌, Bool, true, false, cond, eqb, ltb, leb, List, [], ◌∷◌, ◌++◌, length, get_or, take, drop, Some, None, Ok, Err, Result, sym, refl, ap, ◌∙◌, subst, zero-add, add-one, arith, lit≤}
+use Rattle.std.proofs.Common.{◌≡◌, ℕ, zero, suc, ◌+◌, ◌^◌, ◌<◌, ◌≤◌, true, cond, eqb, ltb, leb, List, [], ◌∷◌, ◌++◌, length, get_or, take, drop, Ok, Err, Result, sym, refl, ap, ◌∙◌, subst, zero-add, add-one, arith, lit≤}
 use Rattle.std.specs.List.{AllByRecursion as All}
 use Rattle.std.specs.Str.{bytes_eq}
 use Rattle.std.proofs.ByRecursion.{All-drop, All-get_or}
@@ -7,13 +7,13 @@ use Rattle.std.proofs.lemmas.List.{length-append, drop-drop, drop_more, drop_at,
 use Rattle.std.proofs.lemmas.Bool.Decides.{nat_tests}
 use Rattle.spoc.specs.Sealing.{Sealing, Laws, Octets}
 use Rattle.cards.specs.Faults.{Fault, fault, and_then}
-use Rattle.cards.specs.Format.{header, mark, nonce, Sheet, a_sheet, sheet_record, end_record, records, card}
+use Rattle.cards.specs.Format.{header, mark, nonce, Sheet, a_sheet, end_record, records, card}
 use Rattle.cards.specs.Reader.{Card, checked, check, check_bytes, walk, place_of, sheet_at, sheet_answer, unseal, cell_of, edition_of, length_of, head_of, body_of, tag_of, version_of}
 use Rattle.cards.specs.Claims.{Reads, ReadsOnce}
 use Rattle.cards.proofs.Numbers.{two_bytes}
 use Rattle.cards.proofs.Heads.{header_from}
 use Rattle.cards.proofs.Records.{Fit, Seen, seen}
-use Rattle.cards.proofs.Walking.{tail_from, tail_is, walk_written, walk_passed, Passed}
+use Rattle.cards.proofs.Walking.{tail_from, tail_is, walk_written, walk_passed}
 
 -- sheets by their numbers, in bytes that begin with h
 module _ (S : Sealing) (L : Laws S) (key h : List ℕ) (xs : List Sheet) (hl : length h ≡ 13) (fit : All Fit xs) where

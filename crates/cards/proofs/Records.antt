@@ -1,12 +1,12 @@
 -- A sealed record at the front of a list reads as its sheet, and a record that reads as a sheet is the sealed one.
-use Rattle.std.proofs.Common.{◌≡◌, ℕ, zero, suc, ◌+◌, ◌<◌, ◌≤◌, List, [], ◌∷◌, ◌++◌, length, take, drop, Some, None, Ok, Err, Option, Result, sym, refl, ap, ◌∙◌, subst, arith}
+use Rattle.std.proofs.Common.{◌≡◌, ℕ, ◌+◌, ◌<◌, ◌≤◌, List, [], ◌++◌, length, drop, Some, None, Ok, Err, Option, Result, sym, refl, ap, ◌∙◌, subst, arith}
 use Rattle.std.proofs.lemmas.List.{append_assoc, nil_from_length, length-append}
 use Rattle.spoc.specs.Sealing.{Sealing, Laws, Octets}
 use Rattle.cards.specs.Faults.{Fault, fault, and_then}
 use Rattle.cards.specs.Format.{head, nonce, Sheet, a_sheet, sealed, sheet_record, end_record}
 use Rattle.cards.specs.Reader.{Record, sheet, last, parse, opened, unseal, read_record, kind_of, cell_of, edition_of, length_of, head_of, body_of, tag_of}
 use Rattle.cards.proofs.Heads.{head_from}
-use Rattle.cards.proofs.Parsing.{front, front_is, parse_written, parse_written_end, Parsed, sheet_parsed, end_parsed, parts, body_length, cell_small, edition_small, length_is, head_is, rest_is, size_is, body_is, tag_is, cell_is, edition_is}
+use Rattle.cards.proofs.Parsing.{front, front_is, parse_written, parse_written_end, Parsed, sheet_parsed, end_parsed, parts, body_length, cell_small, edition_small, length_is, head_is, rest_is, body_is, tag_is, cell_is, edition_is}
 
 -- a sheet that append takes
 pub record Fit (s : Sheet) : Type 0 where

@@ -1,15 +1,15 @@
 -- Whole runs: what a closed card is, and which lists are written.
-use Rattle.std.proofs.Common.{◌≡◌, ℕ, zero, suc, ◌+◌, ◌<◌, ◌≤◌, Bool, true, false, cond, List, [], ◌∷◌, ◌++◌, map, length, take, drop, is_ok, Some, None, Ok, Err, Option, Result, sym, refl, ap, ◌∙◌, subst, arith}
+use Rattle.std.proofs.Common.{◌≡◌, ℕ, suc, ◌+◌, ◌≤◌, true, false, List, [], ◌∷◌, ◌++◌, length, take, drop, Some, Ok, Err, Result, sym, refl, ap, ◌∙◌, subst, arith}
 use Rattle.std.specs.List.{AllByRecursion as All}
 use Rattle.std.proofs.lemmas.List.{append_assoc, append-nil, length-append, length-drop, length_push}
-use Rattle.spoc.specs.Sealing.{Sealing, Laws, Octets}
+use Rattle.spoc.specs.Sealing.{Sealing, Laws}
 use Rattle.cards.specs.Faults.{Fault}
 use Rattle.cards.specs.Format.{Sheet, records, card, sheet_record, end_record}
-use Rattle.cards.specs.Plain.{Plain, count, started, start, next_nonce, append_answer, appended, close_answer, closed_medium, left_by}
+use Rattle.cards.specs.Plain.{Plain, count, started, next_nonce, append_answer, appended, close_answer, closed_medium, left_by}
 use Rattle.cards.specs.Runs.{Call, append, close, Run, run, answered, ended, closing, accepted}
 use Rattle.cards.specs.Claims.{Well, WellCall, Accepts, to_write, Writes}
 use Rattle.cards.proofs.Records.{Fit}
-use Rattle.cards.proofs.Writing.{h, Kept, started_kept, appended_kept, appended_length, closed_is, append_passes, close_passes, close_passed, start_passes, start_passed, StartPassed, sheet_length, end_length}
+use Rattle.cards.proofs.Writing.{h, Kept, started_kept, appended_kept, appended_length, closed_is, append_passes, close_passes, start_passes, start_passed, sheet_length, end_length}
 
 accepted_none : (cs : List Call) → accepted cs [] ≡ []
 accepted_none [] = refl

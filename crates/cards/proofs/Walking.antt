@@ -1,5 +1,5 @@
 -- The walk over a written card gives its sheets, and what the walk passes was written.
-use Rattle.std.proofs.Common.{◌≡◌, ℕ, zero, suc, ◌+◌, ◌<◌, ◌≤◌, Bool, true, false, cond, eqb, List, [], ◌∷◌, ◌++◌, length, take, drop, Some, None, Ok, Err, Option, Result, sym, refl, ap, ◌∙◌, subst, arith}
+use Rattle.std.proofs.Common.{◌≡◌, ℕ, zero, suc, ◌+◌, ◌<◌, ◌≤◌, true, cond, eqb, List, [], ◌∷◌, ◌++◌, length, drop, Some, None, Ok, Err, Option, Result, sym, refl, ap, ◌∙◌, subst, arith}
 use Rattle.std.specs.List.{AllByRecursion as All}
 use Rattle.std.proofs.ByRecursion.{All-drop}
 use Rattle.std.proofs.lemmas.List.{append_assoc, append-nil, drop_all}
@@ -8,7 +8,7 @@ use Rattle.spoc.specs.Sealing.{Sealing, Laws, Octets}
 use Rattle.cards.specs.Faults.{Fault, fault, and_then}
 use Rattle.cards.specs.Format.{head, Sheet, sheet_record, end_record, records}
 use Rattle.cards.specs.Reader.{read_record, follow, walk, length_of}
-use Rattle.cards.proofs.Records.{Fit, Seen, seen, sealed_length, read_written, read_written_end, Back, sheet_back, end_back}
+use Rattle.cards.proofs.Records.{Fit, seen, sealed_length, read_written, read_written_end, sheet_back, end_back}
 
 -- what a walk that gives sheets went on with
 pub cons_back : (s : Sheet) (z : Result (List Sheet) Fault) (xs : List Sheet) → and_then z (λ ys. Ok (s ∷ ys)) ≡ Ok xs → (ys : List Sheet) × (z ≡ Ok ys) × (s ∷ ys ≡ xs)

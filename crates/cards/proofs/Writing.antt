@@ -1,11 +1,10 @@
 -- What the plain writer keeps from call to call.
-use Rattle.std.proofs.Common.{◌≡◌, ℕ, zero, suc, ◌+◌, ◌-◌, ◌<◌, ◌≤◌, Bool, true, false, cond, eqb, ltb, leb, List, [], ◌∷◌, ◌++◌, length, take, drop, Ok, Err, Result, sym, refl, ap, ◌∙◌, subst, zero-add, arith}
+use Rattle.std.proofs.Common.{◌≡◌, ℕ, suc, ◌+◌, ◌-◌, ◌<◌, ◌≤◌, List, [], ◌∷◌, ◌++◌, length, take, drop, Ok, sym, refl, ap, ◌∙◌, zero-add, arith}
 use Rattle.std.specs.List.{AllByRecursion as All}
 use Rattle.std.proofs.ByRecursion.{All-push}
 use Rattle.std.proofs.lemmas.List.{append_assoc, append-nil, length-append, length-take-le, length-drop, length_push, take_at}
 use Rattle.std.proofs.lemmas.Bool.Decides.{nat_tests}
 use Rattle.spoc.specs.Sealing.{Sealing, Laws}
-use Rattle.cards.specs.Faults.{Fault, fault}
 use Rattle.cards.specs.Format.{header, head, Sheet, sheet_record, end_record, records, card}
 use Rattle.cards.specs.Plain.{Plain, overwrite, count, started, start, append_questions, append_answer, appended, close_questions, close_answer, closed_medium}
 use Rattle.cards.proofs.Records.{Fit, sealed_length}

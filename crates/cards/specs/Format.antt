@@ -1,5 +1,5 @@
 -- The bytes of a card.
-use Rattle.std.specs.Prelude.{ℕ, suc, ◌+◌, ◌/◌, ◌%◌, List, [], ◌∷◌, ◌++◌, length, drop}
+use Rattle.std.specs.Prelude.{ℕ, suc, ◌/◌, ◌%◌, List, [], ◌∷◌, ◌++◌, length, drop}
 use Rattle.spoc.specs.Sealing.{Sealing}
 
 -- numbers of 2, 4 and 8 bytes, the highest byte first

@@ -1,4 +1,4 @@
-use Rattle.std.proofs.Common.{ℕ, List, [], ◌∷◌, ◌++◌, replicate, ap, ◌∙◌, ap₂}
+use Rattle.std.proofs.Common.{ℕ, List, ◌++◌, replicate, ap, ◌∙◌, ap₂}
 use borrow.Rule.Slice.PartMut.{put_mid}
 use Rattle.cards.specs.Format.{mark, be2}
 use Rattle.cards.proofs.format.make_header.Goals as goal
