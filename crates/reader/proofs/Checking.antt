@@ -1,11 +1,11 @@
 -- The questions of check in their order.
-use Rattle.std.proofs.Common.{◌≡◌, ℕ, suc, ◌+◌, ◌*◌, ◌≤◌, true, cond, eqb, leb, List, length, get_or, take, drop, Ok, Err, Result, sym, refl, ap, ◌∙◌, subst, arith}
+use Rattle.std.proofs.Common.{◌≡◌, ℕ, suc, ◌+◌, ◌≤◌, true, eqb, leb, List, length, take, drop, Ok, Err, Result, sym, refl, ap, ◌∙◌, arith}
 use Rattle.std.specs.Str.{bytes_eq}
 use Rattle.std.proofs.lemmas.Bool.Decides.{nat_tests}
 use Rattle.spoc.specs.Sealing.{Sealing}
-use Rattle.cards.specs.Faults.{Fault, fault, and_then}
+use Rattle.cards.specs.Faults.{Fault, and_then}
 use Rattle.cards.specs.Format.{Sheet, mark}
-use Rattle.cards.specs.Reader.{Card, check, check_bytes, checked, how_many, place_of, scratch_after, version_of, walk, wiped}
+use Rattle.cards.specs.Reader.{check, check_bytes, checked, how_many, place_of, scratch_after, version_of, walk, wiped}
 use Rattle.cards.proofs.Places.{lies}
 use Rattle.reader.specs.Said.{ready_with}
 

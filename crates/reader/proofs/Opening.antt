@@ -1,5 +1,5 @@
 -- What the cipher's open says to the card layer, where its questions on key, nonce, data and tag are passed.
-use Rattle.std.proofs.Common.{◌≡◌, ℕ, ◌+◌, ◌≤◌, Bool, true, false, cond, leb, List, ◌++◌, length, take, drop, replicate, Some, None, Ok, Err, Option, Result, sym, refl, ap, ◌∙◌, ap₂, arith}
+use Rattle.std.proofs.Common.{◌≡◌, ℕ, ◌+◌, ◌≤◌, Bool, true, false, cond, leb, List, ◌++◌, length, take, drop, replicate, Some, None, Ok, Err, Option, Result, sym, refl, ap, ◌∙◌, arith}
 use Rattle.std.proofs.lemmas.List.{length-append, length-drop, length-replicate}
 use Rattle.std.proofs.lemmas.Slice.{drop-append-drop}
 use Rattle.std.proofs.lemmas.Bool.{le-leb}
@@ -13,7 +13,6 @@ use Rattle.spoc.specs.declared.SealFault.TheVariants.{OutputShort}
 use Rattle.cards.specs.Faults.{Fault, fault, of_sealed}
 use Rattle.cards.specs.Format.{be8, nonce}
 use Rattle.cards.specs.Reader.{unseal, body_or_zeros}
-use Rattle.cards.specs.declared.SealedFault.{SealedFault}
 use Rattle.reader.specs.Said.{open_answer, open_output}
 
 -- an answer of open with the record and the place

@@ -67,7 +67,7 @@ fn walk_card<const B: usize, S: Suite<B>>(
             place: 0,
         });
     };
-    if &header[0..3] != MARK {
+    if &header[0..3] != MARK.as_slice() {
         return Err(CardFault::Own {
             no: CardNo::Mark,
             record: 0,

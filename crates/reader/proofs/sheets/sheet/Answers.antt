@@ -1,23 +1,23 @@
-use Rattle.std.proofs.Common.{◌≡◌, ℕ, ◌+◌, ◌-◌, ◌<◌, ◌≤◌, List, length, take, drop, Ok, Err, Result, sym, refl, ap, ◌∙◌, subst, arith, rules}
+use Rattle.std.proofs.Common.{◌≡◌, ℕ, ◌+◌, ◌-◌, ◌≤◌, List, length, take, drop, Err, sym, ap, ◌∙◌, arith, rules}
 use Rattle.std.proofs.lemmas.List.{take_rest}
 use Rattle.std.proofs.lemmas.Result.{err_from_is_err_and}
 use Rattle.spoc.specs.Sealing.{Sealing, spoc}
-use Rattle.cards.specs.Faults.{Fault, told}
+use Rattle.cards.specs.Faults.{told}
 use Rattle.cards.specs.Reader.{length_of, sheet_answer, sheet_at, sheet_buffer}
 use Rattle.cards.proofs.Places.{opening}
 use Rattle.reader.specs.Cards.{shown}
 use Rattle.reader.specs.Heads.{headed}
 use Rattle.reader.specs.Said.{recorded, open_output}
 use Rattle.reader.proofs.Bodies.{answer_passes, buffer_passes, no_mismatch}
-use Rattle.reader.proofs.Within.{place, fits, low, rest_whole}
+use Rattle.reader.proofs.Within.{fits, low, rest_whole}
 use Rattle.reader.proofs.sheets.sheet.Given as given
 use Rattle.reader.proofs.sheets.sheet.Goals as goal
-use Rattle.reader.proofs.sheets.sheet.Goals.{AfterPlaceOfPlace, AfterOpenSheet}
+use Rattle.reader.proofs.sheets.sheet.Goals.{After-place_of-place, After-open_sheet}
 
 abbrev cipher : given.Over → Sealing
 cipher g = spoc g.S.Bijection.meaning g.S.SuiteModel.plan
 
-in_card : (g : given.Over) (c : AfterPlaceOfPlace g) → c.place_of-place.result + (9 + length_of (drop c.place_of-place.result c.args.card.now.bytes.now) + c.args.card.now.rate) ≤ length c.args.card.now.bytes.now
+in_card : (g : given.Over) (c : After-place_of-place g) → c.place_of-place.result + (9 + length_of (drop c.place_of-place.result c.args.card.now.bytes.now) + c.args.card.now.rate) ≤ length c.args.card.now.bytes.now
 in_card g c = fits c.args.card.now c.args.i c.place_of-place.result c.place_of-place.ensures (omega arith)
 
 pub front-header-requires : goal.front-header-requires
@@ -39,7 +39,7 @@ open_sheet-requires g c =
     (omega (arith, w, c.rate_bytes.ensures), search rules)
 
 -- the answer and the buffer of open_sheet, to the card
-answer_is : (g : given.Over) (c : AfterOpenSheet g) → recorded c.open_sheet.result ≡ headed (sheet_answer (cipher g) (shown c.args.card.now) c.args.i (length c.args.buffer.now))
+answer_is : (g : given.Over) (c : After-open_sheet g) → recorded c.open_sheet.result ≡ headed (sheet_answer (cipher g) (shown c.args.card.now) c.args.i (length c.args.buffer.now))
 answer_is g c =
     let card = c.args.card.now in
     let S = cipher g in
@@ -52,7 +52,7 @@ answer_is g c =
     ∙ ap (λ p. headed (sheet_at S card.key (take 13 card.bytes.now) c.args.i p (drop p card.bytes.now) o)) c.place_of-place.ensures
     ∙ ap headed (sym (answer_passes S (shown card) c.args.i hv hr (omega arith) o))
 
-buffer_is : (g : given.Over) (c : AfterOpenSheet g) → c.open_sheet.new.buffer ≡ sheet_buffer (cipher g) (shown c.args.card.now) c.args.i c.args.buffer.now
+buffer_is : (g : given.Over) (c : After-open_sheet g) → c.open_sheet.new.buffer ≡ sheet_buffer (cipher g) (shown c.args.card.now) c.args.i c.args.buffer.now
 buffer_is g c =
     let card = c.args.card.now in
     let S = cipher g in

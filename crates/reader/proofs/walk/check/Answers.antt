@@ -1,9 +1,9 @@
-use Rattle.std.proofs.Common.{◌≡◌, ℕ, suc, ◌≤◌, List, length, Ok, Err, sym, refl, ap, ◌∙◌, arith}
+use Rattle.std.proofs.Common.{◌≡◌, ℕ, suc, List, Err, sym, ap, ◌∙◌, arith}
 use Rattle.std.proofs.lemmas.Result.{err_from_is_err_and}
 use Rattle.spoc.specs.Sealing.{Sealing, Laws, spoc}
 use Rattle.spoc.proofs.Law.{spoc_laws}
 use Rattle.cards.specs.Faults.{told, of_record, of_card}
-use Rattle.cards.specs.Reader.{Card, check, filled, place_of}
+use Rattle.cards.specs.Reader.{Card, filled, place_of}
 use Rattle.cards.proofs.Claims.{reads_as_written, all_writable}
 use Rattle.cards.proofs.Reading.{reads_once}
 use Rattle.reader.specs.Cards.{passes}
@@ -11,7 +11,7 @@ use Rattle.reader.proofs.Checking.{Ready, Filled, not_ready, when_ready, refused
 use Rattle.reader.proofs.Wiping.{wiped_same}
 use Rattle.reader.proofs.walk.check.Given as given
 use Rattle.reader.proofs.walk.check.Goals as goal
-use Rattle.reader.proofs.walk.check.Goals.{InOkKey, InOkCount}
+use Rattle.reader.proofs.walk.check.Goals.{In_ok-key, In_ok-count}
 
 abbrev cipher : given.Over → Sealing
 cipher g = spoc g.S.Bijection.meaning g.S.SuiteModel.plan
@@ -33,7 +33,7 @@ returns-in_err-key g c =
       once = reads_once (cipher g);
     }
 
-is_ready : (g : given.Over) (c : InOkKey g) → Ready (cipher g) c.args.key.now c.args.bytes.now c.args.scratch.now c.in_ok-key.key
+is_ready : (g : given.Over) (c : In_ok-key g) → Ready (cipher g) c.args.key.now c.args.bytes.now c.args.scratch.now c.in_ok-key.key
 is_ready g c = when_ready (cipher g) c.args.key.now c.args.bytes.now c.args.scratch.now c.in_ok-key.key (sym c.in_ok-key.ensures)
 
 pub drop-guard-requires : goal.drop-guard-requires
@@ -57,7 +57,7 @@ returns-in_err-count g c =
       once = reads_once (cipher g);
     }
 
-the_filled : (g : given.Over) (c : InOkCount g) → Filled (cipher g) c.args.key.now c.args.bytes.now c.args.scratch.now c.in_ok-key.key (is_ready g (goal.at.In_ok-count g c).In_ok-key) c.in_ok-count.count
+the_filled : (g : given.Over) (c : In_ok-count g) → Filled (cipher g) c.args.key.now c.args.bytes.now c.args.scratch.now c.in_ok-key.key (is_ready g (goal.at.In_ok-count g c).In_ok-key) c.in_ok-count.count
 the_filled g c = filled_at (cipher g) c.args.key.now c.args.bytes.now c.args.scratch.now c.in_ok-key.key (is_ready g (goal.at.In_ok-count g c).In_ok-key) c.in_ok-count.count c.in_ok-count.ensures.answer
 
 same_card : {k k' : List ℕ} {v v' r r' n n' : ℕ} (bs : List ℕ) → k ≡ k' → v ≡ v' → r ≡ r' → n ≡ n' → ◌≡◌ {A = Card} (record { bytes = bs; key = k; version = v; rate = r; count = n }) (record { bytes = bs; key = k'; version = v'; rate = r'; count = n' })
@@ -65,10 +65,12 @@ same_card bs p q r s = cc
 
 pub invariant_of-card : goal.invariant_of-card
 invariant_of-card g c =
-    let x = the_filled g (goal.at.invariant_of-card g c).In_ok-count in (
-      λ _. ap (λ r. place_of r c.args.bytes.now (suc c.in_ok-count.count)) c.rate_bytes.ensures ∙ x.runs,
-      (λ none. absurd (omega (arith, x.long)), (omega (arith, c.rate_bytes.ensures, g.met.S.SuiteModel.sound.rate_high), tt)),
-    )
+    let x = the_filled g (goal.at.invariant_of-card g c).In_ok-count in
+    record {
+      runs = λ _. ap (λ r. place_of r c.args.bytes.now (suc c.in_ok-count.count)) c.rate_bytes.ensures ∙ x.runs;
+      none = λ none. absurd (omega (arith, x.long));
+      small = omega (arith, c.rate_bytes.ensures, g.met.S.SuiteModel.sound.rate_high);
+    }
 
 pub returns : goal.returns
 returns g c =

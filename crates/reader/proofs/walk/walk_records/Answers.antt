@@ -1,4 +1,4 @@
-use Rattle.std.proofs.Common.{◌≡◌, ℕ, ◌+◌, ◌<◌, ◌≤◌, List, [], length, take, drop, Some, None, sym, refl, ap, ◌∙◌, subst, arith, rules}
+use Rattle.std.proofs.Common.{◌≡◌, ◌+◌, ◌<◌, length, Some, None, sym, ap, ◌∙◌, arith, rules}
 use Rattle.std.proofs.lemmas.List.{take_rest}
 use Rattle.std.proofs.lemmas.Result.{err_from_is_err_and}
 use Rattle.std.specs.declared.result.Result.TheVariants as result
@@ -7,25 +7,25 @@ use Rattle.cards.specs.Format.{Sheet}
 use Rattle.cards.specs.Reader.{parse, sheet, last, read_record, length_of}
 use Rattle.cards.proofs.Counting.{total, total_refused, total_sheet, total_end, total_left}
 use Rattle.spoc.specs.Sealing.{Sealing, spoc}
-use Rattle.reader.specs.Said.{said, of_part}
+use Rattle.reader.specs.Said.{of_part}
 use Rattle.reader.proofs.Trying.{Lengths, sheet_lengths, end_lengths, read_refused, read_sheet, read_end}
 use Rattle.reader.proofs.walk.walk_records.Given as given
 use Rattle.reader.proofs.walk.walk_records.Goals as goal
-use Rattle.reader.proofs.walk.walk_records.Goals.{InSheet, InEnd}
+use Rattle.reader.proofs.walk.walk_records.Goals.{In-Sheet, In-End}
 
 abbrev cipher : given.Over → Sealing
 cipher g = spoc g.S.Bijection.meaning g.S.SuiteModel.plan
 
 -- the record that was read, to the walk
-the_sheet : (g : given.Over) (c : InSheet g) → (s : Sheet) × (read_record (cipher g) c.args.key.now c.args.header.now c.loop-body.n c.loop-body.place c.loop-body.rest.now ≡ result.Ok (Some s)) × (parse g.S.SuiteModel.plan.rate c.loop-body.n c.loop-body.place c.loop-body.rest.now ≡ result.Ok (sheet c.in-Sheet.cell c.in-Sheet.edition c.in-Sheet.body.now c.in-Sheet.tag.now))
+the_sheet : (g : given.Over) (c : In-Sheet g) → (s : Sheet) × (read_record (cipher g) c.args.key.now c.args.header.now c.loop-body.n c.loop-body.place c.loop-body.rest.now ≡ result.Ok (Some s)) × (parse g.S.SuiteModel.plan.rate c.loop-body.n c.loop-body.place c.loop-body.rest.now ≡ result.Ok (sheet c.in-Sheet.cell c.in-Sheet.edition c.in-Sheet.body.now c.in-Sheet.tag.now))
 the_sheet g c =
     read_sheet (cipher g) c.args.key.now c.args.header.now c.loop-body.n c.loop-body.place c.loop-body.rest.now c.in-Sheet.cell c.in-Sheet.edition c.in-Sheet.body.now c.in-Sheet.tag.now
     (sym (ap (λ x. result.Ok (of_part x)) c.in-Sheet.is) ∙ c.in_ok-body.ensures.said)
 
-fits : (g : given.Over) (c : InSheet g) → Lengths g.S.SuiteModel.plan.rate c.loop-body.rest.now c.in-Sheet.body.now c.in-Sheet.tag.now × (c.loop-body.n < 512)
+fits : (g : given.Over) (c : In-Sheet g) → Lengths g.S.SuiteModel.plan.rate c.loop-body.rest.now c.in-Sheet.body.now c.in-Sheet.tag.now × (c.loop-body.n < 512)
 fits g c = sheet_lengths g.S.SuiteModel.plan.rate c.loop-body.n c.loop-body.place c.loop-body.rest.now c.in-Sheet.cell c.in-Sheet.edition c.in-Sheet.body.now c.in-Sheet.tag.now (the_sheet g c).2
 
-the_end : (g : given.Over) (c : InEnd g) → (read_record (cipher g) c.args.key.now c.args.header.now c.loop-body.n c.loop-body.place c.loop-body.rest.now ≡ result.Ok None) × (parse g.S.SuiteModel.plan.rate c.loop-body.n c.loop-body.place c.loop-body.rest.now ≡ result.Ok (last c.in-End.tag.now))
+the_end : (g : given.Over) (c : In-End g) → (read_record (cipher g) c.args.key.now c.args.header.now c.loop-body.n c.loop-body.place c.loop-body.rest.now ≡ result.Ok None) × (parse g.S.SuiteModel.plan.rate c.loop-body.n c.loop-body.place c.loop-body.rest.now ≡ result.Ok (last c.in-End.tag.now))
 the_end g c =
     read_end (cipher g) c.args.key.now c.args.header.now c.loop-body.n c.loop-body.place c.loop-body.rest.now c.in-End.tag.now
     (sym (ap (λ x. result.Ok (of_part x)) c.in-End.is) ∙ c.in_ok-body.ensures.said)

@@ -1,7 +1,7 @@
-use Rattle.std.proofs.Common.{◌≡◌, ◌+◌, ◌-◌, ◌*◌, ◌≤◌, length, drop}
+use Rattle.std.proofs.Common.{◌≡◌, ◌+◌, ◌-◌, ◌*◌, ◌≤◌, drop}
 use Rattle.cards.specs.Reader.{how_many, walk}
 use Rattle.cards.proofs.Counting.{total}
-use Rattle.spoc.specs.Sealing.{Sealing, spoc}
+use Rattle.spoc.specs.Sealing.{spoc}
 use Rattle.reader.proofs.walk.walk_records.Given as goal
 
 abbrev pub invariant-loop-body : goal.invariant-loop-body

@@ -1,4 +1,4 @@
-use Rattle.std.proofs.Common.{◌≡◌, ℕ, ◌+◌, ◌-◌, ◌<◌, List, [], ◌∷◌, ◌++◌, length, take, drop, Ok, Err, sym, refl, ap, ◌∙◌, subst, arith}
+use Rattle.std.proofs.Common.{◌+◌, ◌<◌, List, length, take, Ok, Err, refl, ap, ◌∙◌, subst, arith}
 use Rattle.std.proofs.lemmas.List.{length-take, take_more_set}
 use Rattle.spoc.specs.Sealing.{spoc}
 use Rattle.spoc.proofs.Law.{spoc_laws}
@@ -8,7 +8,7 @@ use Rattle.writer.specs.declared.runs.Call.{Call}
 use Rattle.writer.proofs.Replays.{goes_append, goes_refused, goes_closed, goes_all, stands_at, part_is, called, others_stay}
 use Rattle.writer.proofs.runs.replay.Given as given
 use Rattle.writer.proofs.runs.replay.Goals as goal
-use Rattle.writer.proofs.runs.replay.Goals.{in_Append, in_Close+in_Err}
+use Rattle.writer.proofs.runs.replay.Goals.{in-Append, in-Close+in-Err}
 
 hold : (g : given.Over) → RunsHold (spoc g.S.Bijection.meaning g.S.SuiteModel.plan)
 hold g = runs_hold (spoc g.S.Bijection.meaning g.S.SuiteModel.plan) (spoc_laws g.S.Bijection.meaning g.S.SuiteModel.plan g.met.S.SuiteModel.sound g.S.Bijection.bijective)
@@ -39,21 +39,21 @@ loop-call-preserved g c =
     let room : c.loop-call.made < length c.loop-call.answers = omega (arith, c.loop-call.invariant.0, c.loop-call.auto.answers, length-take (length c.args.answers.now) c.args.calls.now) in
     let made = c.loop-call.made in
     elim c.match-call.branch [
-      | in_Append w ↦ (
+      | in-Append w ↦ (
         omega (arith, c.loop-call.invariant.0),
         others_stay c.loop-call.answers c.match-call.answers c.args.answers.now made w.append.result w.answers-is c.loop-call.invariant.1,
         goes_append (spoc g.S.Bijection.meaning g.S.SuiteModel.plan) c.args.writer c.args.medium.now calls (take made c.loop-call.answers) c.loop-call.open c.loop-call.medium c.loop-call.call-index c.loop-call.invariant.2 _ within
             w.in-Append.cell w.in-Append.edition w.in-Append.body w.append.result c.match-call.open c.match-call.medium (take (made + 1) c.match-call.answers)
             (called _ calls c.loop-call.call-index _ _ part w.in-Append.is) (ap (take (made + 1)) w.answers-is ∙ take_more_set c.loop-call.answers made w.append.result room)
-            (λ q s. let y = w.append.ensures q s in (y.0, stands_at w.open-is w.medium_is y.1)),
+            (λ q s. let y = w.append.ensures q s in (y.0, stands_at w.open-is w.medium-is y.1)),
       )
-      | in_Close+in_Err w ↦ (
+      | in-Close+in-Err w ↦ (
         omega (arith, c.loop-call.invariant.0),
         others_stay c.loop-call.answers c.match-call.answers c.args.answers.now made (Err w.in-Err.unclosed.fault) w.answers-is c.loop-call.invariant.1,
         goes_refused (spoc g.S.Bijection.meaning g.S.SuiteModel.plan) c.args.writer c.args.medium.now calls (take made c.loop-call.answers) c.loop-call.open c.loop-call.medium c.loop-call.call-index c.loop-call.invariant.2 _ within
             w.in-Err.unclosed.fault c.match-call.open c.match-call.medium (take (made + 1) c.match-call.answers)
             (called _ calls c.loop-call.call-index _ _ part w.in-Close.is) (ap (take (made + 1)) w.answers-is ∙ take_more_set c.loop-call.answers made (Err w.in-Err.unclosed.fault) room) (w.open-is ∙ w.in-Err.ensures.back)
-            (λ q s. let y = w.in-Err.ensures.plain q s in (y.0, w.medium_is ∙ y.1)),
+            (λ q s. let y = w.in-Err.ensures.plain q s in (y.0, w.medium-is ∙ y.1)),
       )
     ]
 

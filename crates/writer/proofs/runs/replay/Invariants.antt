@@ -1,4 +1,4 @@
-use Rattle.std.proofs.Common.{◌≡◌, ◌≤◌, length, take, drop}
+use Rattle.std.proofs.Common.{◌≡◌, length, take, drop}
 use Rattle.spoc.specs.Sealing.{spoc}
 use Rattle.writer.proofs.Replays.{Goes}
 use Rattle.writer.proofs.runs.replay.Given as goal

@@ -1,4 +1,4 @@
-use Rattle.std.proofs.Common.{◌≡◌, sym, refl, ap, ◌∙◌, arith}
+use Rattle.std.proofs.Common.{ap, ◌∙◌, arith}
 use Rattle.cards.specs.Plain.{overwrite}
 use Rattle.cards.proofs.Puts.{put_part}
 use Rattle.writer.proofs.seals.put.Goals as goal

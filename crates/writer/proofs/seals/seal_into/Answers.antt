@@ -1,4 +1,4 @@
-use Rattle.std.proofs.Common.{◌≡◌, ℕ, ◌+◌, ◌-◌, ◌≤◌, List, [], ◌++◌, length, drop, sym, refl, ap, ◌∙◌, arith, length-drop}
+use Rattle.std.proofs.Common.{◌≡◌, ℕ, ◌-◌, List, ◌++◌, length, drop, ap, ◌∙◌, arith, length-drop}
 use Rattle.spoc.specs.Feed.{ciphertext}
 use Rattle.cards.proofs.Puts.{join_over}
 use Rattle.writer.proofs.seals.seal_into.Goals as goal

@@ -1,7 +1,7 @@
-use Rattle.std.proofs.Common.{◌≡◌, ℕ, ◌+◌, ◌≤◌, List, ◌++◌, length, drop, Ok, sym, refl, ap, ◌∙◌, arith, rules}
+use Rattle.std.proofs.Common.{◌≡◌, ℕ, List, ◌++◌, drop, Ok, sym, refl, ap, ◌∙◌, arith}
 use Rattle.spoc.specs.Sealing.{Sealing, spoc}
 use Rattle.cards.specs.Format.{header}
-use Rattle.cards.specs.Plain.{Plain, start, started, left_by}
+use Rattle.cards.specs.Plain.{start, started, left_by}
 use Rattle.cards.proofs.Writing.{start_passes}
 use Rattle.writer.proofs.Standing.{starts_as}
 use Rattle.writer.proofs.writer.Writer.start.Goals as goal
