@@ -107,7 +107,7 @@ fn read_header(bytes: &[u8]) -> Result<Header, CardFault>
             place: 0,
         });
     };
-    if &header[0..3] != MARK {
+    if &header[0..3] != MARK.as_slice() {
         return Err(CardFault::Own {
             no: CardNo::Mark,
             record: 0,

@@ -1,11 +1,10 @@
 -- Bytes that are printed read back. Assumes nothing.
-use Rattle.std.proofs.Common.{◌≡◌, ℕ, ◌+◌, ◌-◌, ◌*◌, ◌/◌, ◌%◌, ◌<◌, Bool, true, false, cond, ◌&&◌, eqb, ltb, List, [], ◌∷◌, Ok, Result, refl, ap, ◌∙◌, ap₂, arith}
+use Rattle.std.proofs.Common.{◌≡◌, ℕ, ◌+◌, ◌*◌, ◌/◌, ◌%◌, ◌<◌, true, false, ◌&&◌, eqb, List, [], ◌∷◌, Ok, refl, ap, ◌∙◌, ap₂, arith}
 use Rattle.std.proofs.lemmas.Bool.{cond-false}
 use Rattle.std.proofs.lemmas.Bool.Decides.{nat_tests}
-use Rattle.std.specs.List.{AllByRecursion as All}
+use Rattle.std.specs.List.{AllByRecursion}
 use Rattle.std.specs.Str.{bytes_eq}
-use Rattle.script.specs.declared.unread.Unread.{Unread}
-use Rattle.script.specs.Hex.{hex_digit, byte_of, before, pairs, bytes_of, upper, hex_pairs, ReadsBack}
+use Rattle.script.specs.Hex.{hex_digit, byte_of, before, pairs, upper, hex_pairs, ReadsBack}
 
 -- a digit in capitals
 digit_back : (d : ℕ) → d < 16 → hex_digit (upper d) ≡ Ok d
@@ -16,7 +15,7 @@ byte_back b small =
     let whole : b / 16 * 16 + b % 16 ≡ b = omega arith in
     ap₂ byte_of (digit_back (b / 16) (omega arith)) (digit_back (b % 16) (omega arith)) ∙ ap Ok whole
 
-pairs_back : (bs : List ℕ) → All (λ b. b < 256) bs → pairs (hex_pairs bs) ≡ Ok bs
+pairs_back : (bs : List ℕ) → AllByRecursion (λ b. b < 256) bs → pairs (hex_pairs bs) ≡ Ok bs
 pairs_back [] small = refl
 pairs_back (b ∷ bs) small = ap₂ before (byte_back b small.0) (pairs_back bs small.1)
 

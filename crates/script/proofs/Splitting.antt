@@ -1,7 +1,6 @@
 -- The first word of a line, by the place of its first space. Assumes nothing.
-use Rattle.std.proofs.Common.{◌≡◌, ℕ, zero, suc, ◌<◌, Bool, true, false, cond, eqb, List, [], ◌∷◌, length, get_or, take, drop, Some, None, Ok, Err, Option, Result, sym, refl, ap, ◌∙◌, arith}
+use Rattle.std.proofs.Common.{◌≡◌, ℕ, zero, suc, ◌<◌, true, false, cond, eqb, List, [], ◌∷◌, length, get_or, take, drop, Some, None, Ok, Err, sym, refl, ap, ◌∙◌, arith}
 use Rattle.std.proofs.lemmas.Bool.{eq-eqb, ne_eqb, cond-true, cond-false}
-use Rattle.script.specs.declared.unread.Unread.{Unread}
 use Rattle.script.specs.declared.unread.Unread.TheVariants.{EmptyWord, TooManyWords}
 use Rattle.script.specs.Words.{first_word, after_space, longer, words, words_in, next_word, next_left, ending}
 

@@ -1,7 +1,7 @@
 -- Bytes as hexadecimal pairs: read in either case, written in capitals. Assumes nothing.
 use Rattle.std.specs.Prelude.{◌≡◌, ℕ, ◌+◌, ◌-◌, ◌*◌, ◌/◌, ◌%◌, ◌<◌, cond, List, [], ◌∷◌, Ok, Err, Result, nat_lt}
 use Rattle.std.specs.Int.{is_in_range}
-use Rattle.std.specs.List.{AllByRecursion as All}
+use Rattle.std.specs.List.{AllByRecursion}
 use Rattle.std.specs.Str.{bytes_eq}
 use Rattle.script.specs.declared.unread.Unread.{Unread}
 use Rattle.script.specs.declared.unread.Unread.TheVariants.{EmptyWord, OddDigits, WrongDigit}
@@ -50,4 +50,4 @@ hex_text (b ∷ bs) = hex_pairs (b ∷ bs)
 
 -- bytes that are printed read back
 abbrev pub ReadsBack : Type 0
-ReadsBack = (bs : List ℕ) → All (λ b. b < 256) bs → bytes_of (hex_text bs) ≡ Ok bs
+ReadsBack = (bs : List ℕ) → AllByRecursion (λ b. b < 256) bs → bytes_of (hex_text bs) ≡ Ok bs

@@ -1,4 +1,4 @@
-use Rattle.std.proofs.Common.{Ok, sym, ap, ◌∙◌, inl, arith, rules}
+use Rattle.std.proofs.Common.{Ok, sym, ap, ◌∙◌, inl, arith}
 use Rattle.std.proofs.lemmas.Bool.{eqb-true, eqb-false}
 use Rattle.script.proofs.Back.{reads_back}
 use Rattle.script.proofs.Pairing.{bytes_empty, bytes_none, holds_pairs}

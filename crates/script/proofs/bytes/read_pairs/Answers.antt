@@ -1,4 +1,4 @@
-use Rattle.std.proofs.Common.{◌≡◌, ℕ, List, [], ◌∷◌, ◌++◌, length, Ok, vec_items, sym, refl, ap, ◌∙◌, ap₂, inl, inr, append-nil, arith, length-append}
+use Rattle.std.proofs.Common.{◌≡◌, ℕ, List, [], ◌∷◌, length, Ok, vec_items, sym, refl, ap, ◌∙◌, ap₂, inl, inr, append-nil, arith}
 use Rattle.std.proofs.lemmas.List.{nil_from_length}
 use Rattle.std.proofs.lemmas.Slice.{pushed}
 use Rattle.std.proofs.lemmas.Result.{err_from_is_err_and}
@@ -9,11 +9,11 @@ use Rattle.script.proofs.bytes.read_pairs.Goals as goal
 
 pub loop-pair-init : goal.loop-pair-init
 loop-pair-init c =
-    let e = c.into_iter-pair-iterator.ensures.into_iter-gives in
+    let e = c.into_iter-pair-iterator.ensures.into_iter_gives in
     let size = ap chunks_size e ∙ c.chunks-pair-items.ensures.size in
     let rest = ap chunks_rest e ∙ c.chunks-pair-items.ensures.rest in (
-      tt,
       omega (arith, size),
+      tt,
       size,
       ap₂ (λ (xs w : List ℕ). after xs (pairs w)) c.new-bytes.ensures.items rest
           ∙ after_none (pairs c.args.digits.now),
@@ -33,8 +33,8 @@ loop-pair-preserved c =
     let xs = vec_items c.loop-pair.bytes in
     let b = c.in_ok-read_pair.field-0 in
     let rest = chunks_rest c.next.new.self in (
-      tt,
       omega (arith, steps.0),
+      tt,
       steps.0 ∙ inv.2,
       ap (λ (l : List ℕ). after l (pairs rest)) (pushed (b ∷ []) refl c.in_ok-push.was c.push.ensures.items)
           ∙ sym (pair_more xs c.in-Some.pair.now rest b two c.in_ok-read_pair.ensures)
