@@ -1,6 +1,6 @@
 -- A card is made of bytes.
 use Rattle.std.proofs.Common.{ℕ, suc, ◌/◌, ◌%◌, ◌<◌, List, [], ◌∷◌, ◌++◌, length, drop, refl, arith}
-use Rattle.std.specs.List.{AllByRecursion as All}
+use Rattle.std.specs.List.{AllByRecursion}
 use Rattle.std.proofs.ByRecursion.{All-append, All-drop}
 use Rattle.permutations.specs.Permutation.{Bytes}
 use Rattle.spoc.specs.Sealing.{Sealing, Laws, Octets}
@@ -44,12 +44,12 @@ module _ (S : Sealing) (L : Laws S) (key : List ℕ) (hk : Bytes 16 key) (number
       both hd (S.ciphertext key (nonce h n) (h ++ hd) m ++ S.tag key (nonce h n) (h ++ hd) m) oh
       (both (S.ciphertext key (nonce h n) (h ++ hd) m) (S.tag key (nonce h n) (h ++ hd) m) (L.ciphertext_octets key (nonce h n) (h ++ hd) m hk (nonce_bytes n) d om) (L.tag_octets key (nonce h n) (h ++ hd) m hk (nonce_bytes n) d om))
 
-  records_octets : (n : ℕ) (xs : List Sheet) → All Well xs → Octets (records S key h n xs)
+  records_octets : (n : ℕ) (xs : List Sheet) → AllByRecursion Well xs → Octets (records S key h n xs)
   records_octets n [] w = tt
   records_octets n (s ∷ xs) w =
       both (sheet_record S key h n s) (records S key h (suc n) xs) (sealed_octets n (head 1 s.cell s.edition (length s.body)) s.body (head_octets 1 s.cell s.edition (length s.body) (omega arith)) w.0.body) (records_octets (suc n) xs w.1)
 
-  pub card_octets : (xs : List Sheet) → All Well xs → Octets (card S key number xs)
+  pub card_octets : (xs : List Sheet) → AllByRecursion Well xs → Octets (card S key number xs)
   card_octets xs w =
       both h (records S key h 0 xs ++ end_record S key h (length xs)) h_octets
       (both (records S key h 0 xs) (end_record S key h (length xs)) (records_octets 0 xs w) (sealed_octets (length xs) (head 2 (length xs) 0 0) [] (head_octets 2 (length xs) 0 0 (omega arith)) tt))

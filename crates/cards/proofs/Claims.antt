@@ -1,6 +1,6 @@
 -- The claims on cards.
 use Rattle.std.proofs.Common.{◌≡◌, ℕ, ◌≤◌, List, [], ◌∷◌, ◌++◌, length, sym, ap, subst, le_refl}
-use Rattle.std.specs.List.{AllByRecursion as All}
+use Rattle.std.specs.List.{AllByRecursion}
 use Rattle.spoc.specs.Sealing.{Sealing, Laws}
 use Rattle.cards.specs.Format.{Sheet, card}
 use Rattle.cards.specs.Plain.{Plain}
@@ -13,12 +13,12 @@ use Rattle.cards.proofs.Runs.{card_writes, writes_card, run_shows, Closed}
 use Rattle.cards.proofs.CardOctets.{card_octets}
 use Rattle.cards.proofs.Nonces.{run_distinct}
 
-fits : (xs : List Sheet) → All Well xs → All (λ s. length s.body ≤ 4096) xs → All Fit xs
+fits : (xs : List Sheet) → AllByRecursion Well xs → AllByRecursion (λ s. length s.body ≤ 4096) xs → AllByRecursion Fit xs
 fits [] w b = tt
 fits (s ∷ xs) w b = (record { cell = w.0.cell; edition = w.0.edition; body = b.0 }, fits xs w.1 b.1)
 
 module _ (S : Sealing) (L : Laws S) where
-  gives_card : (key : List ℕ) (number : ℕ) (sheets : List Sheet) → length key ≡ 16 → All Well sheets → All Fit sheets → length sheets ≤ 512 → Gives S key number sheets (card S key number sheets)
+  gives_card : (key : List ℕ) (number : ℕ) (sheets : List Sheet) → length key ≡ 16 → AllByRecursion Well sheets → AllByRecursion Fit sheets → length sheets ≤ 512 → Gives S key number sheets (card S key number sheets)
   gives_card key number sheets hk well fit few medium o long = card_writes S L key number sheets medium hk well fit few long
 
   pub reads_as_written : ReadsAsWritten S

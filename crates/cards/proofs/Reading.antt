@@ -1,6 +1,6 @@
 -- A card reads as its sheets, and bytes that read as sheets are their card.
 use Rattle.std.proofs.Common.{◌≡◌, ℕ, zero, suc, ◌+◌, ◌^◌, ◌<◌, ◌≤◌, true, cond, eqb, ltb, leb, List, [], ◌∷◌, ◌++◌, length, get_or, take, drop, Ok, Err, Result, sym, refl, ap, ◌∙◌, subst, zero-add, add-one, arith, lit≤}
-use Rattle.std.specs.List.{AllByRecursion as All}
+use Rattle.std.specs.List.{AllByRecursion}
 use Rattle.std.specs.Str.{bytes_eq}
 use Rattle.std.proofs.ByRecursion.{All-drop, All-get_or}
 use Rattle.std.proofs.lemmas.List.{length-append, drop-drop, drop_more, drop_at, take_at, take-append-drop, ext_get_or}
@@ -16,7 +16,7 @@ use Rattle.cards.proofs.Records.{Fit, Seen, seen}
 use Rattle.cards.proofs.Walking.{tail_from, tail_is, walk_written, walk_passed}
 
 -- sheets by their numbers, in bytes that begin with h
-module _ (S : Sealing) (L : Laws S) (key h : List ℕ) (xs : List Sheet) (hl : length h ≡ 13) (fit : All Fit xs) where
+module _ (S : Sealing) (L : Laws S) (key h : List ℕ) (xs : List Sheet) (hl : length h ≡ 13) (fit : AllByRecursion Fit xs) where
   abbrev bytes : List ℕ
   bytes = h ++ tail_from S key h 0 xs
 
@@ -70,7 +70,7 @@ module _ (S : Sealing) (L : Laws S) (key : List ℕ) where
       let h = head13 number in
       ap (λ i. h ++ (records S key h 0 xs ++ end_record S key h i)) (sym (zero-add (length xs))) ∙ ap (λ (z : List ℕ). h ++ z) (tail_is S key h 0 xs)
 
-  bytes_passed : (number : ℕ) (xs : List Sheet) → All Fit xs → length xs ≤ 512 → check_bytes S key (whole number xs) ≡ Ok xs
+  bytes_passed : (number : ℕ) (xs : List Sheet) → AllByRecursion Fit xs → length xs ≤ 512 → check_bytes S key (whole number xs) ≡ Ok xs
   bytes_passed number xs fit few =
       let h = head13 number in
       let v = S.version in
@@ -90,7 +90,7 @@ module _ (S : Sealing) (L : Laws S) (key : List ℕ) where
       ∙ ap (λ z. cond z (and_then (check_bytes S key bs) (λ ys. Ok (checked S key bs ys))) (Err (fault 4 1 0 0))) t2
       ∙ ap (λ z. and_then z (λ ys. Ok (checked S key bs ys))) is
 
-  pub whole_reads : (number : ℕ) (xs : List Sheet) → length key ≡ 16 → All Fit xs → length xs ≤ 512 → Reads S key (whole number xs) xs
+  pub whole_reads : (number : ℕ) (xs : List Sheet) → length key ≡ 16 → AllByRecursion Fit xs → length xs ≤ 512 → Reads S key (whole number xs) xs
   whole_reads number xs hk fit few = record {
     card = checked S key (whole number xs) xs;
     passes = λ scratch hs. check_passed (whole number xs) xs scratch hk hs (bytes_passed number xs fit few);
@@ -98,7 +98,7 @@ module _ (S : Sealing) (L : Laws S) (key : List ℕ) where
     gives = λ i buffer d lt le. answer_read S L key (head13 number) xs refl fit i buffer d lt le;
   }
 
-  pub card_reads : (number : ℕ) (xs : List Sheet) → length key ≡ 16 → All Fit xs → length xs ≤ 512 → Reads S key (card S key number xs) xs
+  pub card_reads : (number : ℕ) (xs : List Sheet) → length key ≡ 16 → AllByRecursion Fit xs → length xs ≤ 512 → Reads S key (card S key number xs) xs
   card_reads number xs hk fit few = subst (λ (z : List ℕ). Reads S key z xs) (sym (card_is number xs)) (whole_reads number xs hk fit few)
 
 -- under one key no bytes read as two lists
@@ -137,7 +137,7 @@ module _ (S : Sealing) (L : Laws S) (key : List ℕ) where
   pub record FromCard (bytes : List ℕ) (xs : List Sheet) : Type 0 where
     pub number : ℕ
     pub small : number < 2 ^ 64
-    pub fit : All Fit xs
+    pub fit : AllByRecursion Fit xs
     pub few : length xs ≤ 512
     pub is : bytes ≡ card S key number xs
 

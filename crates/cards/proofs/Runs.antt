@@ -1,6 +1,6 @@
 -- Whole runs: what a closed card is, and which lists are written.
 use Rattle.std.proofs.Common.{◌≡◌, ℕ, suc, ◌+◌, ◌≤◌, true, false, List, [], ◌∷◌, ◌++◌, length, take, drop, Some, Ok, Err, Result, sym, refl, ap, ◌∙◌, subst, arith}
-use Rattle.std.specs.List.{AllByRecursion as All}
+use Rattle.std.specs.List.{AllByRecursion}
 use Rattle.std.proofs.lemmas.List.{append_assoc, append-nil, length-append, length-drop, length_push}
 use Rattle.spoc.specs.Sealing.{Sealing, Laws}
 use Rattle.cards.specs.Faults.{Fault}
@@ -19,7 +19,7 @@ accepted_none (close ∷ cs) = refl
 module _ (S : Sealing) (L : Laws S) (key : List ℕ) (number : ℕ) where
   pub record Closed (n : ℕ) (m : List ℕ) (ys : List Sheet) : Type 0 where
     pub is : take n m ≡ card S key number ys
-    pub fit : All Fit ys
+    pub fit : AllByRecursion Fit ys
     pub few : length ys ≤ 512
 
   -- what is to show of a run from w
@@ -40,17 +40,17 @@ module _ (S : Sealing) (L : Laws S) (key : List ℕ) (number : ℕ) where
       subst (Closed n (closed_medium S w)) none (record { is = ap (λ i. take i (closed_medium S w)) (sym same) ∙ closed_is S L key number w kept m is; fit = kept.fit; few = kept.few })
   close_shows w cs (Err f) kept is ih n e = ih n e
 
-  pub run_shows : (cs : List Call) (w : Plain) → Kept S L key number w → All WellCall cs → Shows w cs (run S w cs)
+  pub run_shows : (cs : List Call) (w : Plain) → Kept S L key number w → AllByRecursion WellCall cs → Shows w cs (run S w cs)
   run_shows [] w kept well n e = absurd (let z : ◌≡◌ {A = ℕ} 0 1 = cc in omega arith)
   run_shows (append s ∷ cs) w kept well n e = append_shows w s cs (append_answer S w s) kept well.0 refl (λ v k. run_shows cs v k well.1) n e
   run_shows (close ∷ cs) w kept well n e = close_shows w cs (close_answer S w) kept refl (run_shows cs w kept well.1) n e
 
   -- a run of accepted calls accepts all the sheets
-  accepted_step : (w : Plain) (s : Sheet) (cs : List Call) (xs : List Sheet) (a : Result ℕ Fault) → ((v : Plain) → All Accepts (run S v cs).answers → accepted cs (run S v cs).answers ≡ xs) → All Accepts (a ∷ (run S (left_by a (appended S w s) w) cs).answers) → accepted (append s ∷ cs) (a ∷ (run S (left_by a (appended S w s) w) cs).answers) ≡ s ∷ xs
+  accepted_step : (w : Plain) (s : Sheet) (cs : List Call) (xs : List Sheet) (a : Result ℕ Fault) → ((v : Plain) → AllByRecursion Accepts (run S v cs).answers → accepted cs (run S v cs).answers ≡ xs) → AllByRecursion Accepts (a ∷ (run S (left_by a (appended S w s) w) cs).answers) → accepted (append s ∷ cs) (a ∷ (run S (left_by a (appended S w s) w) cs).answers) ≡ s ∷ xs
   accepted_step w s cs xs (Ok k) ih all = ap (λ (z : List Sheet). s ∷ z) (ih (appended S w s) all.1)
   accepted_step w s cs xs (Err f) ih all = absurd (let y : false ≡ true = all.0 in let z : ◌≡◌ {A = ℕ} 0 1 = cc in omega arith)
 
-  pub accepted_all : (xs : List Sheet) (w : Plain) → All Accepts (run S w (to_write xs)).answers → accepted (to_write xs) (run S w (to_write xs)).answers ≡ xs
+  pub accepted_all : (xs : List Sheet) (w : Plain) → AllByRecursion Accepts (run S w (to_write xs)).answers → accepted (to_write xs) (run S w (to_write xs)).answers ≡ xs
   accepted_all [] w all = close_none (run S w (to_write [])).answers
     where
       close_none : (as' : List (Result ℕ Fault)) → accepted (close ∷ []) as' ≡ []
@@ -60,23 +60,23 @@ module _ (S : Sealing) (L : Laws S) (key : List ℕ) (number : ℕ) where
 
   -- where there is room, all calls are accepted
   pub record Accepted (w : Plain) (cs : List Call) : Type 0 where
-    pub all : All Accepts (run S w cs).answers
+    pub all : AllByRecursion Accepts (run S w cs).answers
     pub size : ℕ
     pub closes : (run S w cs).closed ≡ Some size
 
   append_accepted : (w : Plain) (s : Sheet) (cs : List Call) (k : ℕ) → append_answer S w s ≡ Ok k → Accepted (appended S w s) cs → Accepted w (append s ∷ cs)
   append_accepted w s cs k is x =
-      let P : Result ℕ Fault → Type 0 = λ a. (All Accepts (answered a (next_nonce w) (run S (left_by a (appended S w s) w) cs)).answers) × ((answered a (next_nonce w) (run S (left_by a (appended S w s) w) cs)).closed ≡ Some x.size) in
+      let P : Result ℕ Fault → Type 0 = λ a. (AllByRecursion Accepts (answered a (next_nonce w) (run S (left_by a (appended S w s) w) cs)).answers) × ((answered a (next_nonce w) (run S (left_by a (appended S w s) w) cs)).closed ≡ Some x.size) in
       let y : P (append_answer S w s) = subst P (sym is) ((refl, x.all), x.closes) in
       record { all = y.0; size = x.size; closes = y.1 }
 
   close_accepted : (w : Plain) (k : ℕ) → close_answer S w ≡ Ok k → Accepted w (close ∷ [])
   close_accepted w k is =
-      let P : Result ℕ Fault → Type 0 = λ a. (All Accepts (closing S w a (ended w)).answers) × ((closing S w a (ended w)).closed ≡ Some k) in
+      let P : Result ℕ Fault → Type 0 = λ a. (AllByRecursion Accepts (closing S w a (ended w)).answers) × ((closing S w a (ended w)).closed ≡ Some k) in
       let y : P (close_answer S w) = subst P (sym is) ((refl, tt), refl) in
       record { all = y.0; size = k; closes = y.1 }
 
-  pub room_accepts : (xs : List Sheet) (w : Plain) → Kept S L key number w → All Fit xs → count w + length xs ≤ 512 → w.place + length (records S key (h S L key number) (count w) xs) + (9 + S.rate) ≤ length w.medium → Accepted w (to_write xs)
+  pub room_accepts : (xs : List Sheet) (w : Plain) → Kept S L key number w → AllByRecursion Fit xs → count w + length xs ≤ 512 → w.place + length (records S key (h S L key number) (count w) xs) + (9 + S.rate) ≤ length w.medium → Accepted w (to_write xs)
   room_accepts [] w kept fit few room = close_accepted w (w.place + (9 + S.rate)) (close_passes S.rate (count w) w.place (length w.medium) kept.room)
   room_accepts (s ∷ xs) w kept fit few room =
       let hd = h S L key number in
@@ -90,11 +90,11 @@ module _ (S : Sealing) (L : Laws S) (key : List ℕ) (number : ℕ) where
       append_accepted w s (to_write xs) (count w) is (room_accepts xs v (appended_kept S L key number w kept s (count w) fit.0.cell fit.0.edition is) fit.1 (omega arith) (omega arith))
 
   -- what is written is the card
-  well_calls : (xs : List Sheet) → All Well xs → All WellCall (to_write xs)
+  well_calls : (xs : List Sheet) → AllByRecursion Well xs → AllByRecursion WellCall (to_write xs)
   well_calls [] w = (tt, tt)
   well_calls (s ∷ xs) w = (w.0, well_calls xs w.1)
 
-  pub writes_card : (sheets : List Sheet) (medium bytes : List ℕ) → All Well sheets → Writes S key number sheets medium bytes → (length key ≡ 16) × (bytes ≡ card S key number sheets) × All Fit sheets × (length sheets ≤ 512)
+  pub writes_card : (sheets : List Sheet) (medium bytes : List ℕ) → AllByRecursion Well sheets → Writes S key number sheets medium bytes → (length key ≡ 16) × (bytes ≡ card S key number sheets) × AllByRecursion Fit sheets × (length sheets ≤ 512)
   writes_card sheets medium bytes well x =
       let y = start_passed S key number medium x.writer x.starts in
       let kept = subst (Kept S L key number) y.is (started_kept S L key number medium y.room) in
@@ -104,7 +104,7 @@ module _ (S : Sealing) (L : Laws S) (key : List ℕ) (number : ℕ) where
       let c = subst (Closed x.size (run S x.writer (to_write sheets)).medium) all z in
       (y.key, x.bytes_are ∙ c.is, c.fit, c.few)
 
-  pub card_writes : (sheets : List Sheet) (medium : List ℕ) → length key ≡ 16 → All Well sheets → All Fit sheets → length sheets ≤ 512 → length (card S key number sheets) ≤ length medium → Writes S key number sheets medium (card S key number sheets)
+  pub card_writes : (sheets : List Sheet) (medium : List ℕ) → length key ≡ 16 → AllByRecursion Well sheets → AllByRecursion Fit sheets → length sheets ≤ 512 → length (card S key number sheets) ≤ length medium → Writes S key number sheets medium (card S key number sheets)
   card_writes sheets medium hk well fit few long =
       let hd = h S L key number in
       let a = length-append hd (records S key hd 0 sheets ++ end_record S key hd (length sheets)) in

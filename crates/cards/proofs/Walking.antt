@@ -1,6 +1,6 @@
 -- The walk over a written card gives its sheets, and what the walk passes was written.
 use Rattle.std.proofs.Common.{◌≡◌, ℕ, zero, suc, ◌+◌, ◌<◌, ◌≤◌, true, cond, eqb, List, [], ◌∷◌, ◌++◌, length, drop, Some, None, Ok, Err, Option, Result, sym, refl, ap, ◌∙◌, subst, arith}
-use Rattle.std.specs.List.{AllByRecursion as All}
+use Rattle.std.specs.List.{AllByRecursion}
 use Rattle.std.proofs.ByRecursion.{All-drop}
 use Rattle.std.proofs.lemmas.List.{append_assoc, append-nil, drop_all}
 use Rattle.std.proofs.lemmas.Bool.Decides.{nat_tests}
@@ -53,7 +53,7 @@ module _ (S : Sealing) (key h : List ℕ) where
       ∙ ap (λ (z : List ℕ). sheet_record S key h n s ++ z) (tail_is (suc n) xs)
 
   module _ (L : Laws S) where
-    pub walk_written : (xs : List Sheet) (left n p : ℕ) → All Fit xs → n + left ≡ 512 → length xs ≤ left → walk S key h left n p (tail_from n xs) ≡ Ok xs
+    pub walk_written : (xs : List Sheet) (left n p : ℕ) → AllByRecursion Fit xs → n + left ≡ 512 → length xs ≤ left → walk S key h left n p (tail_from n xs) ≡ Ok xs
     walk_written [] left n p f e le =
         let list = end_record S key h n in
         let x : read_record S key h n p list ≡ Ok None = ap (read_record S key h n p) (sym (append-nil list)) ∙ read_written_end S L key h n p [] (omega arith) in
@@ -76,7 +76,7 @@ module _ (S : Sealing) (key h : List ℕ) where
 
     -- what the walk passes
     pub record Passed (left n : ℕ) (rest : List ℕ) (xs : List Sheet) : Type 0 where
-      pub fit : All Fit xs
+      pub fit : AllByRecursion Fit xs
       pub few : length xs ≤ left
       pub is : rest ≡ tail_from n xs
 

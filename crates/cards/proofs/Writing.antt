@@ -1,6 +1,6 @@
 -- What the plain writer keeps from call to call.
 use Rattle.std.proofs.Common.{◌≡◌, ℕ, suc, ◌+◌, ◌-◌, ◌<◌, ◌≤◌, List, [], ◌∷◌, ◌++◌, length, take, drop, Ok, sym, refl, ap, ◌∙◌, zero-add, arith}
-use Rattle.std.specs.List.{AllByRecursion as All}
+use Rattle.std.specs.List.{AllByRecursion}
 use Rattle.std.proofs.ByRecursion.{All-push}
 use Rattle.std.proofs.lemmas.List.{append_assoc, append-nil, length-append, length-take-le, length-drop, length_push, take_at}
 use Rattle.std.proofs.lemmas.Bool.Decides.{nat_tests}
@@ -77,7 +77,7 @@ module _ (S : Sealing) (L : Laws S) (key : List ℕ) (number : ℕ) where
     pub key_is : w.key ≡ key
     pub header_is : w.header ≡ h
     pub few : count w ≤ 512
-    pub fit : All Fit w.sheets
+    pub fit : AllByRecursion Fit w.sheets
     pub front : take w.place w.medium ≡ h ++ records S key h 0 w.sheets
     pub room : w.place + (9 + S.rate) ≤ length w.medium
 

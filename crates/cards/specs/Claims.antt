@@ -1,6 +1,6 @@
 -- What holds of cards, over every cipher that keeps its laws.
 use Rattle.std.specs.Prelude.{◌≡◌, ℕ, ◌^◌, ◌<◌, ◌≤◌, true, List, [], ◌∷◌, ◌++◌, map, length, get_or, take, is_ok, Some, Ok, Option, Result, slice_index_or}
-use Rattle.std.specs.List.{AllByRecursion as All}
+use Rattle.std.specs.List.{AllByRecursion}
 use Rattle.permutations.specs.Permutation.{Bytes}
 use Rattle.spoc.specs.Sealing.{Sealing, Octets}
 use Rattle.cards.specs.Faults.{Fault}
@@ -33,7 +33,7 @@ to_write sheets = map append sheets ++ close ∷ []
 pub record Writes (S : Sealing) (key : List ℕ) (number : ℕ) (sheets : List Sheet) (medium bytes : List ℕ) : Type 0 where
   pub writer : Plain
   pub starts : start S key number medium ≡ Ok writer
-  pub accepts : All Accepts (run S writer (to_write sheets)).answers
+  pub accepts : AllByRecursion Accepts (run S writer (to_write sheets)).answers
   pub size : ℕ
   pub closes : (run S writer (to_write sheets)).closed ≡ Some size
   pub bytes_are : bytes ≡ take size (run S writer (to_write sheets)).medium
@@ -45,15 +45,15 @@ Gives S key number sheets bytes = (medium : List ℕ) → Octets medium → leng
 -- Bytes read as a list of sheets under a key exactly when writing that list, with that key and some card number, on a long enough medium gives those bytes, whatever it held.
 abbrev pub ReadsAsWritten : Sealing → Type 0
 ReadsAsWritten S =
-    (key bytes : List ℕ) (sheets : List Sheet) → Octets bytes → All Well sheets →
+    (key bytes : List ℕ) (sheets : List Sheet) → Octets bytes → AllByRecursion Well sheets →
     (Reads S key bytes sheets → (number : ℕ) × (number < 2 ^ 64) × Gives S key number sheets bytes)
     × ((number : ℕ) × (number < 2 ^ 64) × Gives S key number sheets bytes → Reads S key bytes sheets)
 
 -- With any 16 key bytes and any card number, every list of at most 512 sheets with bodies of at most 4,096 bytes can be written, and then reads as that list.
 abbrev pub AllWritable : Sealing → Type 0
 AllWritable S =
-    (key : List ℕ) (number : ℕ) (sheets : List Sheet) → Bytes 16 key → number < 2 ^ 64 → All Well sheets →
-    length sheets ≤ 512 → All (λ s. length s.body ≤ 4096) sheets →
+    (key : List ℕ) (number : ℕ) (sheets : List Sheet) → Bytes 16 key → number < 2 ^ 64 → AllByRecursion Well sheets →
+    length sheets ≤ 512 → AllByRecursion (λ s. length s.body ≤ 4096) sheets →
     (bytes : List ℕ) × Octets bytes × Gives S key number sheets bytes × Reads S key bytes sheets
 
 -- Under one key no bytes read as two lists.
@@ -73,7 +73,7 @@ pub record RunHolds (S : Sealing) (key : List ℕ) (w : Plain) (calls : List Cal
 abbrev pub RunsHold : Sealing → Type 0
 RunsHold S =
     (key : List ℕ) (number : ℕ) (medium : List ℕ) (w : Plain) → start S key number medium ≡ Ok w →
-    (calls : List Call) → All WellCall calls → RunHolds S key w calls
+    (calls : List Call) → AllByRecursion WellCall calls → RunHolds S key w calls
 
 -- On a card that reads as a list, find answers the number of the sheet with that cell and the highest edition, the first among equals, or none.
 abbrev pub FindTells : Sealing → Type 0

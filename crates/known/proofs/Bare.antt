@@ -1,7 +1,7 @@
 -- The bench card without sheets, on media of every length.
 use Rattle.std.proofs.Common.{◌≡◌, ℕ, ◌+◌, ◌≤◌, Bool, true, false, cond, List, [], ◌++◌, length, take, drop, Ok, Err, Result, sym, refl, ap, ◌∙◌, subst, arith, drop-drop, le-leb}
 use Rattle.std.proofs.lemmas.List.{length-append, length-drop}
-use Rattle.std.specs.List.{AllByRecursion as All}
+use Rattle.std.specs.List.{AllByRecursion}
 use Rattle.permutations.specs.Bench.{forward}
 use Rattle.permutations.specs.Bytes.{xors}
 use Rattle.permutations.specs.declared.Bench.{Bench}
@@ -42,7 +42,7 @@ bare_gives m o long =
     record {
       writer = writer m;
       starts = start_is m long;
-      accepts = subst (λ (a : Result ℕ Fault). All Accepts (closing bench_cipher (writer m) a (ended (writer m))).answers) (sym e) (refl, tt);
+      accepts = subst (λ (a : Result ℕ Fault). AllByRecursion Accepts (closing bench_cipher (writer m) a (ended (writer m))).answers) (sym e) (refl, tt);
       size = 30;
       closes = ap (λ a. (closing bench_cipher (writer m) a (ended (writer m))).closed) e;
       bytes_are = sym (ap (λ a. take 30 (closing bench_cipher (writer m) a (ended (writer m))).medium) e ∙ ap (take 30) (closed_is m));

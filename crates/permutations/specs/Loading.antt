@@ -4,7 +4,7 @@ use Rattle.std.proofs.Math.Path.{sym, ap}
 use Rattle.std.proofs.Common.{subst, ◌∙◌, pow-suc, mul-suc, arith, pow-add, add-one}
 use Rattle.std.proofs.Math.Seq.{take_all}
 use Rattle.std.proofs.lemmas.List.{take_more}
-use Rattle.std.specs.List.{AllByRecursion as All}
+use Rattle.std.specs.List.{AllByRecursion}
 use Rattle.std.proofs.ByRecursion.{All-get_or, All-take}
 use Rattle.permutations.specs.declared.steps.State.{State}
 use Rattle.permutations.specs.declared.constants.StepConstants.{StepConstants}
@@ -21,14 +21,14 @@ pow_bytes zero = refl
 pow_bytes (suc w) = pow-suc 256 w ∙ ap (λ z. z * 256) (pow_bytes w) ∙ sym (pow-add 2 (8 * w) 8) ∙ ap (λ z. 2 ^ z) (omega (arith, mul-suc 8 w))
 
 module _ (w : ℕ) where
-  words_lt : (s : State) → FitsIn (8 * w) s → All (λ x. x < 256 ^ w) (words s)
+  words_lt : (s : State) → FitsIn (8 * w) s → AllByRecursion (λ x. x < 256 ^ w) (words s)
   words_lt s h =
-      subst (λ (z : ℕ). All (λ x. x < z) (words s)) (sym (pow_bytes w))
+      subst (λ (z : ℕ). AllByRecursion (λ x. x < z) (words s)) (sym (pow_bytes w))
       (h.s0.left, (h.s0.right, (h.s1.left, (h.s1.right, (h.s2.left, (h.s2.right, (h.s3.left, (h.s3.right, tt))))))))
 
   pub word_lt : (s : List ℕ) → Bytes (w * 8) s → (i : ℕ) → i < 8 → slice_index (loads w 8 s) i < 2 ^ (8 * w)
   word_lt s b i h =
-      let all : All (λ x. x < 2 ^ (8 * w)) (loads w 8 s) = subst (λ (z : ℕ). All (λ x. x < z) (loads w 8 s)) (pow_bytes w) (loads_lt w 8 s b.size b.small) in
+      let all : AllByRecursion (λ x. x < 2 ^ (8 * w)) (loads w 8 s) = subst (λ (z : ℕ). AllByRecursion (λ x. x < z) (loads w 8 s)) (pow_bytes w) (loads_lt w 8 s b.size b.small) in
       let n : length (loads w 8 s) ≡ 8 = length_loads w 8 s in
       All-get_or (λ x. x < 2 ^ (8 * w)) (loads w 8 s) i 0 (omega arith) all
 
@@ -53,7 +53,7 @@ module _ (w : ℕ) where
   stored : (s : State) → Bytes (w * 8) (stores w (words s))
   stored s = record { size = length_stores w (words s); small = stores_bytes w (words s) }
 
-  module _ (u : ℕ) (ks : List StepConstants) (small : All Small ks) (some : 1 ≤ w) (most : w ≤ 8) where
+  module _ (u : ℕ) (ks : List StepConstants) (small : AllByRecursion Small ks) (some : 1 ≤ w) (most : w ≤ 8) where
     pub backward_forward : (s : List ℕ) → Bytes (w * 8) s → backward w u ks (forward w u ks s) ≡ s
     unfolding forward backward
     backward_forward s b =

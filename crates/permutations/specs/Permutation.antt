@@ -1,12 +1,12 @@
 -- What a permutation is, and what its steps are. Assumes nothing.
 use Rattle.std.specs.Prelude.{◌≡◌, ℕ, zero, suc, ◌<◌, ◌≤◌, cond, List, length, Ok, Err, Result, nat_lt}
-use Rattle.std.specs.List.{AllByRecursion as All}
+use Rattle.std.specs.List.{AllByRecursion}
 use Rattle.permutations.specs.declared.permutation.NoSuchStep.{NoSuchStep}
 
 -- b bytes
 pub record Bytes (b : ℕ) (s : List ℕ) : Type 0 where
   pub size : length s ≡ b
-  pub small : All (λ x. x < 256) s
+  pub small : AllByRecursion (λ x. x < 256) s
 
 -- what a permutation means: the size of its states, and two functions on them
 pub record Perm : Type 0 where

@@ -7,7 +7,7 @@ use Rattle.permutations.specs.Light.{row_at}
 use Rattle.std.proofs.lemmas.List.{take_more, drop_more}
 use Rattle.std.proofs.lemmas.Bool.{ltb-true}
 use Rattle.std.proofs.lemmas.Nat.{xor_lt}
-use Rattle.std.specs.List.{AllByRecursion as All}
+use Rattle.std.specs.List.{AllByRecursion}
 use Rattle.permutations.specs.declared.simeck.Subblock.{Subblock}
 use Rattle.permutations.specs.declared.steps.State.{State}
 use Rattle.permutations.specs.declared.constants.StepConstants.{StepConstants}
@@ -80,12 +80,12 @@ module _ (m : ℕ) (wide : 8 ≤ m) (u : ℕ) where
       }
 
   -- every entry of the table is small
-  pub steps_fit : (ks : List StepConstants) (s : State) → All Small ks → FitsIn m s → FitsIn m (steps m u ks s)
+  pub steps_fit : (ks : List StepConstants) (s : State) → AllByRecursion Small ks → FitsIn m s → FitsIn m (steps m u ks s)
   unfolding steps
   steps_fit [] s c h = h
   steps_fit (k ∷ ks) s c h = steps_fit ks _ c.1 (step_fit k s c.0 h)
 
-  pub unsteps_fit : (ks : List StepConstants) (s : State) → All Small ks → FitsIn m s → FitsIn m (unsteps m u ks s)
+  pub unsteps_fit : (ks : List StepConstants) (s : State) → AllByRecursion Small ks → FitsIn m s → FitsIn m (unsteps m u ks s)
   unfolding unsteps
   unsteps_fit [] s c h = h
   unsteps_fit (k ∷ ks) s c h = unstep_fit k _ c.0 (unsteps_fit ks s c.1 h)

@@ -3,7 +3,7 @@ use Rattle.std.specs.Prelude.{◌≡◌, ℕ, zero, suc, ◌+◌, ◌*◌, ◌/�
 use Rattle.std.proofs.Common.{sym, ap, ap₂, subst, ◌∙◌, append-nil, append_assoc, mod-lt, mod-eq_of_lt, mul_assoc, mul-suc, mul-zero, suc-mul, zero-mul, mul_comm, mul-le-mul_left, div-one, arith, length-append, length-take, length-drop, take-append-drop, take_at, drop_at, drop-drop, add-one}
 use Rattle.std.proofs.Math.Nat.{pow-succ', one-le-pow, mod-one, mul-add-div_right, mul-add-mod_self_right}
 use Rattle.std.proofs.Math.Arith.{digits_lt, digits_div, mod-mul}
-use Rattle.std.specs.List.{AllByRecursion as All}
+use Rattle.std.specs.List.{AllByRecursion}
 use Rattle.std.proofs.ByRecursion.{All-append, All-take, All-drop}
 use borrow.Rule.Slice.PartMut.{put_mid}
 use Rattle.std.proofs.lemmas.Slice.{take-put_mid}
@@ -18,7 +18,7 @@ unfolding store
 length_store zero x = refl
 length_store (suc n) x = ap suc (length_store n x)
 
-pub store_bytes : (n x : ℕ) → All Byte (store n x)
+pub store_bytes : (n x : ℕ) → AllByRecursion Byte (store n x)
 unfolding store
 store_bytes zero x = tt
 store_bytes (suc n) x = (mod-lt (x / 256 ^ n) (omega arith), store_bytes n x)
@@ -34,7 +34,7 @@ load_store (suc n) x =
     ∙ sym (mod-mul x {m = 256} {c = 256 ^ n} (omega arith) (pow_256_pos n))
     ∙ ap (λ z. x % z) (sym (pow-succ' 256 n))
 
-pub load_lt : (bs : List ℕ) → All Byte bs → load bs < 256 ^ length bs
+pub load_lt : (bs : List ℕ) → AllByRecursion Byte bs → load bs < 256 ^ length bs
 unfolding load
 load_lt [] h = omega arith
 load_lt (b ∷ bs) h = subst (λ z. load (b ∷ bs) < z) (sym (pow-succ' 256 (length bs))) (digits_lt h.0 (load_lt bs h.1))
@@ -49,7 +49,7 @@ store_low (suc n) q x =
     ∙ ap₂ (λ h (t : List ℕ). h % 256 ∷ t) (mul-add-div_right (pow_256_pos n) (q * 256) x) (store_low n (q * 256) x)
     ∙ ap (λ h. h ∷ store n x) (mul-add-mod_self_right q 256 (x / 256 ^ n))
 
-pub store_load : (bs : List ℕ) → All Byte bs → store (length bs) (load bs) ≡ bs
+pub store_load : (bs : List ℕ) → AllByRecursion Byte bs → store (length bs) (load bs) ≡ bs
 unfolding load store
 store_load [] h = refl
 store_load (b ∷ bs) h =
@@ -63,7 +63,7 @@ unfolding stores
 length_stores w [] = sym (mul-zero w)
 length_stores w (x ∷ xs) = length-append (store w x) (stores w xs) ∙ ap₂ (λ a b. a + b) (length_store w x) (length_stores w xs) ∙ omega (arith, mul-suc w (length xs))
 
-pub stores_bytes : (w : ℕ) (xs : List ℕ) → All Byte (stores w xs)
+pub stores_bytes : (w : ℕ) (xs : List ℕ) → AllByRecursion Byte (stores w xs)
 unfolding stores
 stores_bytes w [] = tt
 stores_bytes w (x ∷ xs) = All-append Byte (store w x) (stores w xs) (store_bytes w x) (stores_bytes w xs)
@@ -73,7 +73,7 @@ unfolding loads
 length_loads w zero s = refl
 length_loads w (suc n) s = ap suc (length_loads w n (drop w s))
 
-pub loads_stores : (w : ℕ) (xs : List ℕ) → All (λ x. x < 256 ^ w) xs → loads w (length xs) (stores w xs) ≡ xs
+pub loads_stores : (w : ℕ) (xs : List ℕ) → AllByRecursion (λ x. x < 256 ^ w) xs → loads w (length xs) (stores w xs) ≡ xs
 unfolding loads stores
 loads_stores w [] h = refl
 loads_stores w (x ∷ xs) h =
@@ -86,13 +86,13 @@ front w n s e = length-take w s ∙ omega (arith, mul-suc w n)
 rest : (w n : ℕ) (s : List ℕ) → length s ≡ w * suc n → length (drop w s) ≡ w * n
 rest w n s e = length-drop w s ∙ omega (arith, mul-suc w n)
 
-pub loads_lt : (w n : ℕ) (s : List ℕ) → length s ≡ w * n → All Byte s → All (λ x. x < 256 ^ w) (loads w n s)
+pub loads_lt : (w n : ℕ) (s : List ℕ) → length s ≡ w * n → AllByRecursion Byte s → AllByRecursion (λ x. x < 256 ^ w) (loads w n s)
 unfolding loads
 loads_lt w zero s e h = tt
 loads_lt w (suc n) s e h =
     (subst (λ z. load (take w s) < 256 ^ z) (front w n s e) (load_lt (take w s) (All-take Byte w s h)), loads_lt w n (drop w s) (rest w n s e) (All-drop Byte w s h))
 
-pub stores_loads : (w n : ℕ) (s : List ℕ) → length s ≡ w * n → All Byte s → stores w (loads w n s) ≡ s
+pub stores_loads : (w n : ℕ) (s : List ℕ) → length s ≡ w * n → AllByRecursion Byte s → stores w (loads w n s) ≡ s
 unfolding loads stores
 stores_loads w zero s e h = sym (nil_from_length s (e ∙ mul-zero w))
 stores_loads w (suc n) s e h =

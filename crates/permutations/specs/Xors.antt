@@ -3,7 +3,7 @@ use Rattle.std.specs.Prelude.{◌≡◌, ℕ, zero, suc, ◌<◌, ◌≤◌, min
 use Rattle.std.proofs.Common.{sym, ap, ap₂, ◌∙◌, le_of_suc-le-suc, arith}
 use Rattle.std.proofs.lemmas.Nat.{xor_lt, xor_comm}
 use Rattle.std.specs.Int.Bits.{xor_assoc, xor_self, xor_zero_l, xor_zero_r}
-use Rattle.std.specs.List.{AllByRecursion as All}
+use Rattle.std.specs.List.{AllByRecursion}
 use Rattle.permutations.specs.Bytes.{xors}
 use Rattle.permutations.specs.Words.{Byte}
 
@@ -31,7 +31,7 @@ length_xors [] ys = omega arith
 length_xors (x ∷ xs) [] = omega arith
 length_xors (x ∷ xs) (y ∷ ys) = ap suc (length_xors xs ys) ∙ omega arith
 
-pub xors_bytes : (xs ys : List ℕ) → All Byte xs → All Byte ys → All Byte (xors xs ys)
+pub xors_bytes : (xs ys : List ℕ) → AllByRecursion Byte xs → AllByRecursion Byte ys → AllByRecursion Byte (xors xs ys)
 unfolding xors
 xors_bytes [] ys h k = tt
 xors_bytes (x ∷ xs) [] h k = tt

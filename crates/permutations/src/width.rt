@@ -1,5 +1,5 @@
 ghost use Rattle.std.specs.Prelude.{◌≡◌, ℕ, ◌-◌, ◌*◌, ◌^◌, ◌<◌, ◌≤◌, List, length, slice_index_or};
-ghost use Rattle.std.specs.List.{AllByRecursion as All};
+ghost use Rattle.std.specs.List.{AllByRecursion};
 ghost use Rattle.permutations.specs.declared.constants.StepConstants.{StepConstants};
 ghost use Rattle.permutations.specs.Bytes.{load, store};
 ghost use Rattle.permutations.specs.Constants.{row, constants_192, constants_256};
@@ -59,7 +59,7 @@ pub(crate) trait Width {
     // Eighteen steps, whose step constants are bytes.
     ghost long: { length table ≡ 18 };
 
-    ghost small: { All Small table };
+    ghost small: { AllByRecursion Small table };
 }
 
 pub(crate) struct Bits24;

@@ -2,7 +2,7 @@
 use Rattle.std.proofs.Common.{◌≡◌, ℕ, zero, suc, ◌+◌, ◌-◌, ◌<◌, ◌≤◌, min, Bool, true, false, ◌&&◌, eqb, List, [], ◌∷◌, ◌++◌, map, length, take, drop, set, sym, refl, ap, ◌∙◌, ⊎_elim, append_assoc, append-nil, arith}
 use borrow.Rule.Slice.PartMut.{put_mid}
 use lib.Bits.{bit_xor}
-use Rattle.std.specs.List.{flat_map, AllByRecursion as All}
+use Rattle.std.specs.List.{flat_map, AllByRecursion}
 use Rattle.std.proofs.lemmas.List.{take-append-drop, length-append, length-take, length-drop, take_at, drop_at, take_all, drop_all, nil_from_length, set-set, get_or-set_same, length-replicate}
 use Rattle.std.proofs.lemmas.Slice.{take-put_mid}
 use Rattle.std.proofs.lemmas.Bool.{cases_lt, ne_eqb}
@@ -59,7 +59,7 @@ blocks_same r s t l e =
     sym (cut_joined r (length s) s l (omega arith)) ∙ ap (flat_map (λ (x : List ℕ). x)) e ∙ cut_joined r (length t) t l (omega arith)
 
 -- no block is longer than r
-pub cut_fits : (r n : ℕ) (s : List ℕ) → All (λ x. length x ≤ r) (cut r n s)
+pub cut_fits : (r n : ℕ) (s : List ℕ) → AllByRecursion (λ x. length x ≤ r) (cut r n s)
 cut_fits r zero s = tt
 cut_fits r (suc n) [] = tt
 cut_fits r (suc n) (x ∷ s) = (omega (arith, length-take r (x ∷ s)), cut_fits r n (drop r (x ∷ s)))

@@ -1,7 +1,7 @@
 -- A feed tells its data and its message. Assumes nothing.
 use Rattle.std.proofs.Common.{◌≡◌, ℕ, zero, suc, ◌+◌, ◌<◌, ◌≤◌, true, false, cond, ltb, ◌⊎◌, List, [], ◌∷◌, ◌++◌, map, length, get_or, take, drop, set, replicate, sym, refl, ap, ◌∙◌, inl, inr, ⊎_elim, le_of_suc-le-suc, arith}
 use lib.Bits.{bit_xor}
-use Rattle.std.specs.List.{AllByRecursion as All}
+use Rattle.std.specs.List.{AllByRecursion}
 use Rattle.std.proofs.lemmas.List.{set-set, set-get_or, set_past, get_or-set_same, get_or-set_other, get_or-take, get_or_at, length-replicate, ext_get_or}
 use Rattle.std.proofs.lemmas.Bool.{cases_lt, lt-ltb, le-ltb}
 use Rattle.permutations.specs.Permutation.{Perm}
@@ -109,7 +109,7 @@ module _ (p : Perm) (q : Plan) (laws : Sound p q) where
   -- ---- row by row
 
   abbrev Fits : List (List ℕ) → Type 0
-  Fits xs = All (λ x. length x ≤ q.rate) xs
+  Fits xs = AllByRecursion (λ x. length x ≤ q.rate) xs
 
   messages : (xs ys : List (List ℕ)) → Fits xs → Fits ys → map (mask p q 64) xs ≡ map (mask p q 64) ys → xs ≡ ys
   messages [] [] h k e = refl

@@ -1,6 +1,6 @@
 -- SpoC over every suite keeps the laws of a cipher: open undoes seal, and seal undoes open. Assumes nothing.
 use Rattle.std.proofs.Common.{◌≡◌, ℕ, zero, suc, ◌+◌, ◌-◌, ◌<◌, ◌≤◌, min, Bool, true, false, cond, List, [], ◌∷◌, ◌++◌, map, length, take, drop, Some, None, sym, refl, ap, ◌∙◌, subst, append-nil, arith}
-use Rattle.std.specs.List.{flat_map, AllByRecursion as All}
+use Rattle.std.specs.List.{flat_map, AllByRecursion}
 use Rattle.std.specs.Str.{bytes_eq}
 use Rattle.std.proofs.lemmas.Slice.Eq.{bytes_eq-Decides}
 use Rattle.std.proofs.lemmas.List.{length-append, length-take, length-drop, length-map}
@@ -26,7 +26,7 @@ all_of xs = flat_map (λ x. x) xs
 
 module _ (p : Perm) (q : Plan) (laws : Sound p q) where
   abbrev Fits : List (List ℕ) → Type 0
-  Fits xs = All (λ x. length x ≤ q.rate) xs
+  Fits xs = AllByRecursion (λ x. length x ≤ q.rate) xs
 
   -- a block xored with the rate places twice
   rated_off : (x s : List ℕ) → length x ≤ q.rate → xors (xors x (pick q.rate_places s)) (pick q.rate_places s) ≡ x

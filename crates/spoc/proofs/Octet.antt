@@ -1,6 +1,6 @@
 -- Ciphertext and tag are made of bytes. Assumes nothing.
 use Rattle.std.proofs.Common.{ℕ, List, [], ◌∷◌, length, take, drop, lit<}
-use Rattle.std.specs.List.{AllByRecursion as All, flat_map}
+use Rattle.std.specs.List.{AllByRecursion, flat_map}
 use Rattle.std.proofs.ByRecursion.{All-append, All-take, All-drop}
 use Rattle.permutations.specs.Bytes.{xors}
 use Rattle.permutations.specs.Permutation.{Bytes, Perm, Bijective}
@@ -18,7 +18,7 @@ pick_octets [] s h = tt
 pick_octets (p ∷ ps) s h = (octet_at s p h, pick_octets ps s h)
 
 module _ (p : Perm) (bij : Bijective p) (q : Plan) where
-  ciphers_octets : (xs ms : List (List ℕ)) (s : List ℕ) → All Octets xs → All (Bytes p.size) ms → Bytes p.size s → Octets (ciphers p q s xs ms)
+  ciphers_octets : (xs ms : List (List ℕ)) (s : List ℕ) → AllByRecursion Octets xs → AllByRecursion (Bytes p.size) ms → Bytes p.size s → Octets (ciphers p q s xs ms)
   ciphers_octets [] ms s hx hm hs = tt
   ciphers_octets (x ∷ xs) [] s hx hm hs = tt
   ciphers_octets (x ∷ xs) (m ∷ ms) s hx hm hs =
@@ -38,7 +38,7 @@ module _ (p : Perm) (bij : Bijective p) (q : Plan) where
         ciphers_octets (blocks q.rate m) (drop i ms) (run p (start p q k n) (take i ms)) (cut_octets q.rate (length m) m hm) (All-drop (Bytes p.size) i ms fb)
         (run_bytes p bij (take i ms) (start p q k n) (All-take (Bytes p.size) i ms fb) (laws.begin_bytes k n hk hn))
 
-  plains_octets : (ys : List (List ℕ)) (s : List ℕ) → All Octets ys → Bytes p.size s → Octets (flat_map (λ x. x) (plains p q s ys))
+  plains_octets : (ys : List (List ℕ)) (s : List ℕ) → AllByRecursion Octets ys → Bytes p.size s → Octets (flat_map (λ x. x) (plains p q s ys))
   plains_octets [] s hy hs = tt
   plains_octets (y ∷ ys) s hy hs =
       let x : List ℕ = xors y (pick q.rate_places s) in

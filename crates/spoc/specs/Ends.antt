@@ -2,7 +2,7 @@
 use Rattle.std.specs.Prelude.{◌≡◌, ℕ, zero, suc, ◌+◌, ◌<◌, true, false, cond, List, [], ◌∷◌, ◌++◌, map, length, drop, replicate, ◌≢◌, bit_xor, nat_lt, slice_index, slice_set, refl}
 use Rattle.std.proofs.Common.{sym, ap, ◌∙◌, arith, lit<}
 use Rattle.std.proofs.lemmas.Nat.{xor_lt}
-use Rattle.std.specs.List.{AllByRecursion as All}
+use Rattle.std.specs.List.{AllByRecursion}
 use Rattle.std.proofs.lemmas.List.{length-set, length-replicate}
 use Rattle.std.proofs.ByRecursion.{All-append, All-set, All-take, All-drop}
 use Rattle.permutations.specs.Bytes.{xors}
@@ -42,7 +42,7 @@ put_octets [] vs s h k = k
 put_octets (p ∷ ps) [] s h k = k
 put_octets (p ∷ ps) (v ∷ vs) s h k = put_octets ps vs (slice_set s p v) h.1 (All-set Byte s p v h.0 k)
 
-pub cut_octets : (r n : ℕ) (s : List ℕ) → Octets s → All Octets (cut r n s)
+pub cut_octets : (r n : ℕ) (s : List ℕ) → Octets s → AllByRecursion Octets (cut r n s)
 cut_octets r zero s h = tt
 cut_octets r (suc n) [] h = tt
 cut_octets r (suc n) (x ∷ s) h = (All-take Byte r (x ∷ s) h, cut_octets r n (drop r (x ∷ s)) (All-drop Byte r (x ∷ s) h))
@@ -66,16 +66,16 @@ module _ (p : Perm) (q : Plan) where
       let pad : Octets (padded r x) = All-take Byte r (x ++ 128 ∷ replicate r 0) (All-append Byte x (128 ∷ replicate r 0) h (lit< tt, zeros_octets r)) in
       set_bytes (put q.masked_places (padded r x) (zero_mask p)) (control r c x) small (put_bytes p.size q.masked_places (padded r x) pad)
 
-  pub map_bytes : (c : ℕ) (xs : List (List ℕ)) → c + 16 < 256 → All Octets xs → All (Bytes p.size) (map (mask p q c) xs)
+  pub map_bytes : (c : ℕ) (xs : List (List ℕ)) → c + 16 < 256 → AllByRecursion Octets xs → AllByRecursion (Bytes p.size) (map (mask p q c) xs)
   map_bytes c [] l h = tt
   map_bytes c (x ∷ xs) l h = (mask_bytes c x l h.0, map_bytes c xs l h.1)
 
-  ended_bytes : (ms : List (List ℕ)) → All (Bytes p.size) ms → All (Bytes p.size) (ended q ms)
+  ended_bytes : (ms : List (List ℕ)) → AllByRecursion (Bytes p.size) ms → AllByRecursion (Bytes p.size) (ended q ms)
   ended_bytes [] h = tt
   ended_bytes (m ∷ []) h = (set_bytes m _ (xor_lt 8 (slice_index m (control_place q)) 128 (octet_at m (control_place q) h.0.small) (lit< tt)) h.0, tt)
   ended_bytes (m ∷ n ∷ ms) h = (h.0, ended_bytes (n ∷ ms) h.1)
 
-  pub feed_bytes : (d m : List ℕ) → Octets d → Octets m → All (Bytes p.size) (feed p q d m)
+  pub feed_bytes : (d m : List ℕ) → Octets d → Octets m → AllByRecursion (Bytes p.size) (feed p q d m)
   feed_bytes d m h k =
       ended_bytes (zero_mask p ∷ masks p q 32 d ++ masks p q 64 m) (
         record { size = length-replicate p.size 0; small = zeros_octets p.size },
@@ -88,7 +88,7 @@ pub run_append : (p : Perm) (ms ns : List (List ℕ)) (s : List ℕ) → run p s
 run_append p [] ns s = refl
 run_append p (m ∷ ms) ns s = run_append p ms ns (p.forward (xors s m))
 
-all_split : (P : List ℕ → Type 0) (ms ns : List (List ℕ)) → All P (ms ++ ns) → All P ms × All P ns
+all_split : (P : List ℕ → Type 0) (ms ns : List (List ℕ)) → AllByRecursion P (ms ++ ns) → AllByRecursion P ms × AllByRecursion P ns
 all_split P [] ns h = (tt, h)
 all_split P (m ∷ ms) ns h = let r = all_split P ms ns h.1 in ((h.0, r.0), r.1)
 
@@ -98,7 +98,7 @@ module _ (p : Perm) (bij : Bijective p) where
   pub step_bytes : (s m : List ℕ) → Bytes p.size s → Bytes p.size m → Bytes p.size (p.forward (xors s m))
   step_bytes s m h k = bij.forward_bytes (xors s m) (xored p.size s m h k)
 
-  pub run_bytes : (ms : List (List ℕ)) (s : List ℕ) → All (Bytes p.size) ms → Bytes p.size s → Bytes p.size (run p s ms)
+  pub run_bytes : (ms : List (List ℕ)) (s : List ℕ) → AllByRecursion (Bytes p.size) ms → Bytes p.size s → Bytes p.size (run p s ms)
   run_bytes [] s h k = k
   run_bytes (m ∷ ms) s h k = run_bytes ms (p.forward (xors s m)) h.1 (step_bytes s m k h.0)
 
@@ -110,13 +110,13 @@ module _ (p : Perm) (bij : Bijective p) where
   xors_same s t m h k l e =
       sym (xors_off s m (omega (arith, h.size, l.size))) ∙ ap (λ z. xors z m) e ∙ xors_off t m (omega (arith, k.size, l.size))
 
-  run_same : (ms : List (List ℕ)) (s t : List ℕ) → All (Bytes p.size) ms → Bytes p.size s → Bytes p.size t → run p s ms ≡ run p t ms → s ≡ t
+  run_same : (ms : List (List ℕ)) (s t : List ℕ) → AllByRecursion (Bytes p.size) ms → Bytes p.size s → Bytes p.size t → run p s ms ≡ run p t ms → s ≡ t
   run_same [] s t h k l e = e
   run_same (m ∷ ms) s t h k l e =
       let after = run_same ms (p.forward (xors s m)) (p.forward (xors t m)) h.1 (step_bytes s m k h.0) (step_bytes t m l h.0) e in
       xors_same s t m k l h.0 (forward_same (xors s m) (xors t m) (xored p.size s m k h.0) (xored p.size t m l h.0) after)
 
-  one_mask : (s : List ℕ) (xs ys : List (List ℕ)) → Bytes p.size s → All (Bytes p.size) xs → All (Bytes p.size) ys → (d : DifferInOne xs ys) → run p s xs ≢ run p s ys
+  one_mask : (s : List ℕ) (xs ys : List (List ℕ)) → Bytes p.size s → AllByRecursion (Bytes p.size) xs → AllByRecursion (Bytes p.size) ys → (d : DifferInOne xs ys) → run p s xs ≢ run p s ys
   one_mask s xs ys hs hx hy d e =
       let px = all_split (Bytes p.size) d.front (d.one ∷ d.back) (rw d.left at hx) in
       let py = all_split (Bytes p.size) d.front (d.other ∷ d.back) (rw d.right at hy) in

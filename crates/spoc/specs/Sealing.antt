@@ -1,13 +1,13 @@
 -- A cipher as the layers above see it: lists of bytes in, lists of bytes out. Assumes nothing.
 use Rattle.std.specs.Prelude.{◌≡◌, ℕ, ◌<◌, ◌≤◌, List, length, Some, Option}
-use Rattle.std.specs.List.{AllByRecursion as All}
+use Rattle.std.specs.List.{AllByRecursion}
 use Rattle.permutations.specs.Permutation.{Bytes, Perm}
 use Rattle.spoc.specs.Feed.{ciphertext, tag, opens}
 use Rattle.spoc.specs.Suite.{Plan}
 
 -- bytes, however many
 abbrev pub Octets : List ℕ → Type 0
-Octets s = All (λ x. x < 256) s
+Octets s = AllByRecursion (λ x. x < 256) s
 
 -- each function takes key, nonce and data; then a message, or a ciphertext and a tag
 pub record Sealing : Type 0 where

@@ -1,6 +1,6 @@
 use Rattle.std.proofs.Common.{◌≡◌, ap, ◌∙◌, subst, arith, rules}
 use lib.Bits.{bit_xor}
-use Rattle.std.specs.List.{AllByRecursion as All}
+use Rattle.std.specs.List.{AllByRecursion}
 use Rattle.std.proofs.ByRecursion.{All-from_get_or}
 use Rattle.permutations.specs.Bytes.{load, store, xors}
 use Rattle.permutations.specs.Words.{Byte, load_4, store_4, store_load}
@@ -11,7 +11,7 @@ pub returns : goal.returns
 returns c =
     let p = c.args.part.now in
     let w = c.args.word in
-    let bytes : All Byte p = All-from_get_or Byte p 0 (search rules) in
+    let bytes : AllByRecursion Byte p = All-from_get_or Byte p 0 (search rules) in
     let loaded : c.from_be_bytes.result ≡ load p = omega (arith, c.from_be_bytes.ensures, load_4 p c.requires) in
     let stored : store 4 (load p) ≡ p = subst (λ n. store n (load p) ≡ p) c.requires (store_load p bytes) in
     c.copy_from_slice.ensures.after
