@@ -1,9 +1,9 @@
 -- A card that check passes, and its lines.
-use Rattle.std.proofs.Common.{◌≡◌, ℕ, ◌<◌, ◌≤◌, true, cond, eqb, leb, List, [], ◌∷◌, ◌++◌, length, get_or, Ok, Err, Result, sym, refl, ap, ◌∙◌, subst, le_refl, arith}
+use Rattle.std.proofs.Common.{◌≡◌, ℕ, ◌<◌, ◌≤◌, true, eqb, leb, List, ◌++◌, length, get_or, Ok, Err, Result, sym, refl, ap, ◌∙◌, arith}
 use Rattle.std.proofs.ByRecursion.{All-get_or}
 use Rattle.std.proofs.lemmas.Bool.Decides.{nat_tests}
 use Rattle.spoc.specs.Sealing.{Sealing, Laws, Octets}
-use Rattle.cards.specs.Faults.{Fault, fault, and_then}
+use Rattle.cards.specs.Faults.{Fault, and_then}
 use Rattle.cards.specs.Format.{Sheet}
 use Rattle.cards.specs.Reader.{Card, check, check_bytes, checked, filled, sheet_answer}
 use Rattle.cards.proofs.Reading.{from_bytes, passed_reads}

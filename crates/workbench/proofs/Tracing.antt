@@ -1,5 +1,5 @@
 -- A trace that is printed step by step. Assumes nothing.
-use Rattle.std.proofs.Common.{◌≡◌, ℕ, suc, ◌+◌, ◌<◌, ltb, List, ◌++◌, sym, refl, ap, ◌∙◌, ap₂, add-one}
+use Rattle.std.proofs.Common.{◌≡◌, ℕ, suc, ◌+◌, ◌<◌, ltb, List, ◌++◌, sym, refl, ap, ◌∙◌, add-one}
 use Rattle.std.proofs.lemmas.Bool.{lt-ltb, cond-true}
 use Rattle.permutations.specs.Permutation.{Walk, stepped, step_state}
 use Rattle.workbench.specs.Printed.{step_text, trace_text}

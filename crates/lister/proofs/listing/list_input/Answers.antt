@@ -1,6 +1,6 @@
-use Rattle.std.proofs.Common.{◌≡◌, ◌≤◌, List, length, take, drop, Result, sym, ap, ◌∙◌, subst, arith}
+use Rattle.std.proofs.Common.{◌≤◌, List, length, take, Result, sym, ap, ◌∙◌, subst, arith}
 use Rattle.cards.specs.Faults.{Fault}
-use Rattle.lister.specs.Printed.{card_listed, input_listed, Says}
+use Rattle.lister.specs.Printed.{card_listed, Says}
 use Rattle.lister.proofs.Asking.{input_there}
 use Rattle.lister.proofs.listing.list_input.Goals as goal
 

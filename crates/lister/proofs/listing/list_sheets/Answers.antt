@@ -1,12 +1,11 @@
-use Rattle.std.proofs.Common.{◌≡◌, ℕ, ◌+◌, ◌<◌, ◌≤◌, List, [], ◌++◌, length, get_or, take, Ok, Err, string_bytes, sym, refl, ap, ◌∙◌, subst, arith}
+use Rattle.std.proofs.Common.{ℕ, ◌<◌, ◌≤◌, List, [], ◌++◌, length, take, Ok, string_bytes, sym, refl, ap, ◌∙◌, arith}
 use Rattle.std.proofs.lemmas.List.{append_assoc, append-nil, take_all}
 use Rattle.std.proofs.lemmas.Slice.{pushed}
-use Rattle.std.proofs.lemmas.Result.{err_from_is_err_and}
 use Rattle.spoc.specs.Sealing.{Sealing, spoc}
 use Rattle.cards.specs.Faults.{of_card}
 use Rattle.cards.specs.Format.{Sheet, a_sheet}
 use Rattle.reader.specs.Cards.{shown}
-use Rattle.lister.specs.Printed.{sheet_lines, Holds, Says}
+use Rattle.lister.specs.Printed.{sheet_lines}
 use Rattle.lister.proofs.Lines.{lines_none, lines_more}
 use Rattle.lister.proofs.Passing.{never_refused, line_is}
 use Rattle.lister.proofs.listing.list_sheets.Given as given

@@ -1,14 +1,12 @@
-use Rattle.std.proofs.Common.{◌≡◌, ℕ, ◌<◌, ◌≤◌, List, ◌++◌, length, get_or, Ok, Err, string_bytes, Result, sym, refl, ap, ◌∙◌, subst, le_refl, arith}
+use Rattle.std.proofs.Common.{ℕ, ◌<◌, List, ◌++◌, Ok, Result, sym, ap, ◌∙◌, subst, le_refl, arith}
 use Rattle.std.proofs.ByRecursion.{All-from_get_or}
 use Rattle.std.proofs.lemmas.Result.{err_from_is_err_and}
 use Rattle.spoc.specs.Sealing.{Sealing, Laws, Octets, spoc}
 use Rattle.spoc.proofs.Law.{spoc_laws}
 use Rattle.cards.specs.Faults.{Fault, of_card}
-use Rattle.cards.specs.Format.{Sheet}
-use Rattle.cards.specs.Reader.{Card, checked}
-use Rattle.reader.specs.Cards.{shown}
-use Rattle.lister.specs.Printed.{card_line, sheet_lines, listed, Holds, Says}
-use Rattle.lister.proofs.Passing.{Listed, listed_refused, listed_passed}
+use Rattle.cards.specs.Reader.{Card}
+use Rattle.lister.specs.Printed.{card_line, sheet_lines, Holds, Says}
+use Rattle.lister.proofs.Passing.{listed_refused, listed_passed}
 use Rattle.lister.proofs.listing.list_under.Given as given
 use Rattle.lister.proofs.listing.list_under.Goals as goal
 
