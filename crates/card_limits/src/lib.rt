@@ -90,11 +90,11 @@ mod tests {
         let mut medium = [7; 64];
         assert_eq!(rt; append_on::<32, Bench>(&mut medium), Ok(0));
         assert_eq!(rt; &medium[0..13], &card[0..13]);
-        assert_eq!(rt; &medium[31..64], &[7; 33]);
+        assert_eq!(rt; &medium[31..64], [7; 33].as_slice());
         let mut medium = [7; 33];
         assert_eq!(rt; known::bench_card(&mut medium), Ok(30));
         assert_eq!(rt; &medium[0..30], card);
-        assert_eq!(rt; &medium[30..33], &[7; 3]);
+        assert_eq!(rt; &medium[30..33], [7; 3].as_slice());
         Ok(())
     }
 
@@ -111,7 +111,7 @@ mod tests {
         )?;
         refused(&rt, writer.append(&mut [], 7, 3, &body), (7, 2, 1, 4126))?;
         refused(&rt, writer.append(&mut [], 7, 3, &[]), (9, 2, 1, 4126))?;
-        assert_eq!(rt; &medium[4126..8300], &[7; 4174]);
+        assert_eq!(rt; &medium[4126..8300], [7; 4174].as_slice());
         assert_eq!(rt; close(writer, &mut medium), Ok(4143));
         Ok(())
     }
@@ -156,7 +156,7 @@ mod tests {
         refused::<()>(&rt, Err(fault), (9, 3, 1, 32))?;
         assert_eq!(rt; short, [7; 48]);
         assert_eq!(rt; close(writer, &mut medium), Ok(49));
-        assert_eq!(rt; &medium[0..49], ONE);
+        assert_eq!(rt; &medium[0..49], ONE.as_slice());
         assert_eq!(rt; medium[49], 7);
         Ok(())
     }
@@ -199,8 +199,8 @@ mod tests {
         assert_eq!(rt; short, [7; 4095]);
         let mut long = [7; 4099];
         reader::check::<32, Bench>(KEY, ONE, &mut long, &mut card)?;
-        assert_eq!(rt; &long[0..4096], &[0; 4096]);
-        assert_eq!(rt; &long[4096..4099], &[7; 3]);
+        assert_eq!(rt; &long[0..4096], [0; 4096].as_slice());
+        assert_eq!(rt; &long[4096..4099], [7; 3].as_slice());
         Ok(())
     }
 

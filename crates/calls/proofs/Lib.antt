@@ -1,6 +1,0 @@
-mod Runs
-mod Tracing
-mod Scratch
-mod Finding
-mod Readers
-mod Writers

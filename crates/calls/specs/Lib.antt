@@ -1,5 +1,0 @@
-pub mod Buffers
-pub mod States
-pub mod Sealings
-pub mod Readings
-pub mod Writings
