@@ -12,3 +12,4 @@ pub mod Xors
 pub mod Loading
 pub mod Walking
 pub mod Boxes
+pub mod Lights

@@ -3,9 +3,7 @@ ghost use Rattle.permutations.specs.Bytes.{loads};
 ghost use Rattle.permutations.specs.Light.{load_state, store_state, forward, backward, forward_step, backward_step, light_walk, row_at, light_192, light_256, walk_192, walk_256};
 ghost use Rattle.permutations.specs.Permutation.{step_answer, step_state};
 ghost use Rattle.permutations.specs.Steps.{FitsIn};
-ghost use Rattle.std.proofs.Common.{arith, rules};
-ghost use Rattle.permutations.specs.Constants.{constants_192, constants_256};
-ghost use Rattle.permutations.specs.Loading;
+ghost use Rattle.permutations.specs.Lights.{bijective_192, bijective_256, walks_192, walks_256};
 
 use crate::constants::{CONSTANTS_192, CONSTANTS_256, STEPS, StepConstants};
 use crate::permutation::{Bijection, NoSuchStep, Permutation, Stepped, Steps};
@@ -116,7 +114,7 @@ pub struct Light192;
 impl Bijection for Light192 {
     ghost meaning = { light_192 };
 
-    ghost bijective = { Loading.bijective 3 6 constants_192 (Prim.search rules) (omega arith) (omega arith) };
+    ghost bijective = { bijective_192 };
 }
 
 impl Permutation<24> for Light192 {
@@ -134,7 +132,7 @@ impl Permutation<24> for Light192 {
 impl Steps for Light192 {
     ghost walk = { walk_192 };
 
-    ghost walks = { Loading.walks 3 6 constants_192 (Prim.search rules) (omega arith) (omega arith) };
+    ghost walks = { walks_192 };
 }
 
 impl Stepped<24> for Light192 {
@@ -158,7 +156,7 @@ pub struct Light256;
 impl Bijection for Light256 {
     ghost meaning = { light_256 };
 
-    ghost bijective = { Loading.bijective 4 8 constants_256 (Prim.search rules) (omega arith) (omega arith) };
+    ghost bijective = { bijective_256 };
 }
 
 impl Permutation<32> for Light256 {
@@ -176,7 +174,7 @@ impl Permutation<32> for Light256 {
 impl Steps for Light256 {
     ghost walk = { walk_256 };
 
-    ghost walks = { Loading.walks 4 8 constants_256 (Prim.search rules) (omega arith) (omega arith) };
+    ghost walks = { walks_256 };
 }
 
 impl Stepped<32> for Light256 {

@@ -4,7 +4,7 @@ ghost use Rattle.spoc.specs.Feed.{put};
 ghost use Rattle.spoc.specs.Spoc64.{masked_64, loaded, spoc_64};
 ghost use Rattle.std.proofs.Common.{arith, rules};
 ghost use Rattle.permutations.specs.Constants.{constants_192};
-ghost use Rattle.permutations.specs.Loading;
+ghost use Rattle.permutations.specs.Lights.{bijective_192};
 ghost use Rattle.spoc.specs.Starts.{sound_64};
 
 use crate::subblocks::{in_halves, store_subblocks, xor_word};
@@ -53,7 +53,7 @@ fn mask_nonce(state: &mut [u8; 24], nonce: &[u8; 16])
 impl SuiteModel for Light192 {
     ghost plan = { spoc_64 };
 
-    ghost sound = { sound_64 (Loading.bijective 3 6 constants_192 (Prim.search rules) (omega arith) (omega arith)) };
+    ghost sound = { sound_64 bijective_192 };
 }
 
 impl Suite<24> for Light192 {
