@@ -1,4 +1,4 @@
-ghost use Rattle.std.specs.Prelude.{◌≡◌, ◌*◌, ◌^◌, ◌<◌, cond, length, slice_index};
+ghost use Rattle.std.specs.Prelude.{◌≡◌, ◌*◌, ◌^◌, ◌<◌, length, slice_index};
 ghost use Rattle.permutations.specs.Bytes.{loads};
 ghost use Rattle.permutations.specs.Light.{load_state, store_state, forward, backward, forward_step, backward_step, light_walk, row_at, light_192, light_256, walk_192, walk_256};
 ghost use Rattle.permutations.specs.Permutation.{step_answer, step_state};

@@ -1,4 +1,4 @@
-ghost use Rattle.std.specs.Prelude.{◌≡◌, ℕ};
+ghost use Rattle.std.specs.Prelude.{◌≡◌};
 ghost use Rattle.permutations.specs.Permutation.{Bytes, Perm, Bijective, Undo, Walk, Walks, step_answer, step_state};
 
 // What a permutation means: two functions on states of its size that undo each other.

@@ -2,8 +2,6 @@ ghost use Rattle.std.specs.Prelude.{◌≡◌, ◌+◌, ◌*◌, ◌%◌, ◌^�
 ghost use Rattle.permutations.specs.Bytes.{xors};
 ghost use Rattle.spoc.specs.Feed.{put};
 ghost use Rattle.spoc.specs.Spoc64.{masked_64, loaded, spoc_64};
-ghost use Rattle.std.proofs.Common.{arith, rules};
-ghost use Rattle.permutations.specs.Constants.{constants_192};
 ghost use Rattle.permutations.specs.Lights.{bijective_192};
 ghost use Rattle.spoc.specs.Starts.{sound_64};
 
