@@ -1,4 +1,4 @@
-"""Compare the built programs with the reference: compare.py SEED [COUNT]. Build them first (rt check workbench lister)."""
+"""Compare the built programs with the reference: compare.py SEED [COUNT]. Build them first: `rt run` in crates/workbench and in crates/lister."""
 
 from __future__ import annotations
 
@@ -11,11 +11,11 @@ from dukkovil import listing
 from make_gate import answers
 from make_listings import inputs
 
-BIN = os.path.join(os.path.dirname(os.path.abspath(__file__)), "..", "target", "bin")
+CRATES = os.path.join(os.path.dirname(os.path.abspath(__file__)), "..", "crates")
 
 
 def run(program: str, given: bytes) -> bytes:
-    return subprocess.run([os.path.join(BIN, program)], input=given, capture_output=True, check=True).stdout
+    return subprocess.run([os.path.join(CRATES, program, "out", program)], input=given, capture_output=True, check=True).stdout
 
 
 def main() -> int:
