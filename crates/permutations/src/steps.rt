@@ -86,21 +86,13 @@ impl<W: Width> State<W> {
     pub(crate) fn forward(self) -> Self
         ensures { result ≡ steps (8 * W.BYTES) W.ROUNDS W.table self }
     {
-        let mut s = self;
-        for k in W::constants() {
-            s = s.step(*k);
-        }
-        s
+        W::constants().iter().fold(self, |s, k| s.step(*k))
     }
 
     // All steps undone, the last first.
     pub(crate) fn back(self) -> Self
         ensures { result ≡ unsteps (8 * W.BYTES) W.ROUNDS W.table self }
     {
-        let mut s = self;
-        for k in W::constants().iter().rev() {
-            s = s.unstep(*k);
-        }
-        s
+        W::constants().iter().rev().fold(self, |s, k| s.unstep(*k))
     }
 }
