@@ -1,6 +1,6 @@
 -- The box and its inverse undo each other, at every width and number of rounds, and keep to the width. Assumes nothing.
 use Rattle.std.specs.Prelude.{◌≡◌, ℕ, zero, suc, ◌+◌, ◌-◌, ◌/◌, ◌%◌, ◌^◌, ◌<◌, ◌≤◌, refl}
-use Rattle.std.proofs.Common.{sym, ap, ap₂, subst, ◌∙◌, add-one, mod-lt, lt_of_le_of_lt, div-le_self, arith, pow_pos, pow_mono}
+use Rattle.std.proofs.Common.{sym, ap, ◌∙◌, add-one, mod-lt, lt_of_le_of_lt, div-le_self, arith, pow_pos, pow_mono}
 use Rattle.std.proofs.lemmas.Nat.{or_lt, xor_lt, and_le_r}
 use Rattle.permutations.specs.Simeck.{SubblockWords, block, turned, mixed, gamma, round, unround, box, unbox, Fit}
 use Rattle.permutations.specs.Xors.{xor_round}

@@ -54,6 +54,7 @@ impl<W: Width> State<W> {
     {
         W::sized();
         let bytes = &mut state[..];
+        // By index: a proof forgets what is written through chunks_exact_mut.
         for (i, word) in self.words().iter().enumerate() {
             store_word::<W>(*word, &mut bytes[i * W::BYTES..(i + 1) * W::BYTES]);
         }

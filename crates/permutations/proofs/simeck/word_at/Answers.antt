@@ -1,4 +1,4 @@
-use Rattle.std.proofs.Common.{◌≡◌, ◌+◌, ◌-◌, ◌*◌, take, drop, sym, ap, ◌∙◌, ap₂}
+use Rattle.std.proofs.Common.{◌≡◌, ◌+◌, ◌-◌, ◌*◌, take, drop, sym, ◌∙◌, ap₂}
 use Rattle.permutations.specs.Bytes.{load}
 use Rattle.permutations.specs.Words.{loads_at, part_length}
 use Rattle.permutations.proofs.simeck.word_at.Goals as goal
