@@ -4,7 +4,7 @@ ghost use Rattle.permutations.specs.Bytes.{load, store, loads};
 ghost use Rattle.permutations.specs.Light.{light, light_walk, row_at};
 ghost use Rattle.permutations.specs.Loading;
 
-use crate::constants::StepConstants;
+use crate::constants::{STEPS, StepConstants};
 use crate::permutation::{Bijection, NoSuchStep, Permutation, Stepped, Steps};
 use crate::steps::State;
 use crate::width::{Bits24, Bits32, StateBytes, Width};
@@ -55,7 +55,7 @@ impl<W: Width> Steps for Light<W> {
 
 impl<const B: usize, W: StateBytes<B>> Stepped<B> for Light<W> {
     fn steps() -> usize {
-        W::constants().len()
+        STEPS
     }
 
     fn step(state: &mut [u8; B], i: usize) -> Result<(), NoSuchStep> {

@@ -8,6 +8,7 @@ use std::marker::{Model, PhantomData};
 use std::ops::BitXor;
 
 // A subblock of the state: two words, which keep to the width.
+// It is no Copy: a proof takes one that is used again for moved.
 #[derive(Drop)]
 pub struct Subblock<W: Width> {
     pub(crate) left: u32,
@@ -111,7 +112,7 @@ impl<W: Width> Subblock<W> {
         }
     }
 
-    // The same round undone.
+    // The same round undone: a round with the words exchanged.
     fn unround(self, rc: u8, k: u32) -> Self
         requires { k < 8 }
         ensures { result ≡ unround (8 * W.BYTES) (gamma (8 * W.BYTES) rc k) self }
@@ -154,6 +155,7 @@ pub(crate) fn two_boxes<W: Width>(
 }
 
 // The inverses of the boxes, side by side: the rounds undone, the last first.
+// A loop of its own: with round and order as parameters it would be longer.
 pub(crate) fn two_unboxes<W: Width>(
     a: Subblock<W>,
     b: Subblock<W>,

@@ -1,17 +1,18 @@
-ghost use Rattle.std.specs.Prelude.{◌≡◌, ℕ, ◌-◌, ◌*◌, ◌^◌, ◌<◌, ◌≤◌, List, refl};
+ghost use Rattle.std.specs.Prelude.{◌≡◌, ℕ, ◌-◌, ◌*◌, ◌^◌, ◌<◌, ◌≤◌, List, length, refl};
 ghost use Rattle.std.specs.List.{AllByRecursion};
 ghost use Rattle.permutations.specs.declared.constants.StepConstants.{StepConstants};
+ghost use Rattle.permutations.specs.declared.constants.TheConstants.{STEPS};
 ghost use Rattle.permutations.specs.Constants.{constants_192, constants_256};
 ghost use Rattle.permutations.specs.Simeck.{turned};
 ghost use Rattle.permutations.specs.Steps.{Small};
 ghost use Rattle.permutations.specs.Lights.{small_192, small_256};
 ghost use Rattle.std.proofs.Common.{lit≤};
 
-use crate::constants::{CONSTANTS_192, CONSTANTS_256, StepConstants};
+use crate::constants::{CONSTANTS_192, CONSTANTS_256, STEPS, StepConstants};
 
 // A width of words, with the rounds of its box and the constants of each step.
 pub trait Width {
-    // The bytes of a word.
+    // The bytes of a word, at least one and at most four.
     const BYTES: usize;
 
     ghost BYTES: { ℕ };
@@ -35,7 +36,7 @@ pub trait Width {
     // Step constants are bytes.
     ghost small: { AllByRecursion Small table };
 
-    fn constants() -> &'static [StepConstants]
+    fn constants() -> &'static [StepConstants; STEPS]
         ensures { result.now ≡ table };
 
     // A word turned left.
@@ -47,6 +48,8 @@ pub trait Width {
     ghost few: { ROUNDS ≤ 8 };
 
     ghost ones: { ONES ≡ 2 ^ (8 * BYTES) - 1 };
+
+    ghost long: { length table ≡ STEPS };
 }
 
 // The width whose state has B bytes.
@@ -82,9 +85,11 @@ impl Width for Bits24 {
 
     ghost ones = { refl };
 
+    ghost long = { refl };
+
     ghost small = { small_192 };
 
-    fn constants() -> &'static [StepConstants] {
+    fn constants() -> &'static [StepConstants; STEPS] {
         &CONSTANTS_192
     }
 
@@ -125,12 +130,15 @@ impl Width for Bits32 {
 
     ghost ones = { refl };
 
+    ghost long = { refl };
+
     ghost small = { small_256 };
 
-    fn constants() -> &'static [StepConstants] {
+    fn constants() -> &'static [StepConstants; STEPS] {
         &CONSTANTS_256
     }
 
+    // The words of 24 bits can't be turned by this, so each width has a turn of its own.
     fn turn(x: u32, by: u32) -> u32 {
         x.rotate_left(by)
     }
