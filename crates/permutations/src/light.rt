@@ -1,6 +1,5 @@
-ghost use Rattle.std.specs.Prelude.{◌≡◌, ◌*◌, ◌^◌, ◌<◌, length, slice_index};
+ghost use Rattle.std.specs.Prelude.{◌≡◌};
 ghost use Rattle.std.proofs.Common.{lit≤, le_trans};
-ghost use Rattle.permutations.specs.Bytes.{load, store, loads};
 ghost use Rattle.permutations.specs.Light.{light, light_walk, row_at};
 ghost use Rattle.permutations.specs.Loading;
 

@@ -54,21 +54,6 @@ fn word_at<const B: usize, W: StateBytes<B>>(state: &[u8; B], i: usize) -> u32
     load_word::<W>(&bytes[i * W::BYTES..(i + 1) * W::BYTES])
 }
 
-// Subblock i of a state.
-pub(crate) fn load_subblock<const B: usize, W: StateBytes<B>>(
-    state: &[u8; B],
-    i: usize,
-) -> Subblock<W>
-    requires { i < 4 }
-    ensures { result ≡ block (slice_index (loads W.BYTES 8 state.now) (2 * i)) (slice_index (loads W.BYTES 8 state.now) (2 * i + 1)) }
-{
-    Subblock {
-        left: word_at::<B, W>(state, 2 * i),
-        right: word_at::<B, W>(state, 2 * i + 1),
-        width: PhantomData,
-    }
-}
-
 // What round k xors in: all ones but for the lowest bit, which is bit k of the round constant.
 fn round_word<W: Width>(rc: u8, k: u32) -> u32
     requires { k < 8 }
@@ -78,6 +63,20 @@ fn round_word<W: Width>(rc: u8, k: u32) -> u32
 }
 
 impl<W: Width> Subblock<W> {
+    // Subblock i of a state.
+    pub(crate) fn load<const B: usize>(state: &[u8; B], i: usize) -> Self
+    where
+        W: StateBytes<B>,
+        requires { i < 4 }
+        ensures { result ≡ block (slice_index (loads W.BYTES 8 state.now) (2 * i)) (slice_index (loads W.BYTES 8 state.now) (2 * i + 1)) }
+    {
+        Subblock {
+            left: word_at::<B, W>(state, 2 * i),
+            right: word_at::<B, W>(state, 2 * i + 1),
+            width: PhantomData,
+        }
+    }
+
     // All ones but for the last byte.
     pub(crate) fn ones_but(last: u8) -> Self
         ensures { result ≡ ones_but (8 * W.BYTES) last }

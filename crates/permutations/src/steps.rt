@@ -3,7 +3,7 @@ ghost use Rattle.permutations.specs.Light.{words, load_state, store_state};
 ghost use Rattle.permutations.specs.Steps.{StateWords, step, unstep, steps, unsteps};
 
 use crate::constants::StepConstants;
-use crate::simeck::{Subblock, load_subblock, store_word, two_boxes, two_unboxes};
+use crate::simeck::{Subblock, store_word, two_boxes, two_unboxes};
 use crate::width::{StateBytes, Width};
 use std::marker::Model;
 
@@ -30,10 +30,10 @@ impl<W: Width> State<W> {
         ensures { result ≡ load_state W.BYTES state.now }
     {
         State {
-            s0: load_subblock::<B, W>(state, 0),
-            s1: load_subblock::<B, W>(state, 1),
-            s2: load_subblock::<B, W>(state, 2),
-            s3: load_subblock::<B, W>(state, 3),
+            s0: Subblock::load(state, 0),
+            s1: Subblock::load(state, 1),
+            s2: Subblock::load(state, 2),
+            s3: Subblock::load(state, 3),
         }
     }
 
@@ -47,6 +47,7 @@ impl<W: Width> State<W> {
         ]
     }
 
+    // The bytes of the words.
     pub(crate) fn store<const B: usize>(self, state: &mut [u8; B])
     where
         W: StateBytes<B>,
@@ -60,6 +61,7 @@ impl<W: Width> State<W> {
         }
     }
 
+    // One step, under its constants.
     pub(crate) fn step(self, k: StepConstants) -> Self
         ensures { result ≡ step (8 * W.BYTES) W.ROUNDS k self }
     {
@@ -74,6 +76,7 @@ impl<W: Width> State<W> {
         }
     }
 
+    // The same step undone.
     pub(crate) fn unstep(self, k: StepConstants) -> Self
         ensures { result ≡ unstep (8 * W.BYTES) W.ROUNDS k self }
     {
