@@ -1,1 +1,3 @@
+pub mod Folding
 pub mod Turning
+pub mod Widths

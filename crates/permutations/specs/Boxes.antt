@@ -1,23 +1,22 @@
 -- The box and its inverse undo each other, at every width and number of rounds, and keep to the width. Assumes nothing.
 use Rattle.std.specs.Prelude.{◌≡◌, ℕ, zero, suc, ◌+◌, ◌-◌, ◌/◌, ◌%◌, ◌^◌, ◌<◌, ◌≤◌, refl}
-use Rattle.std.proofs.Common.{sym, ap, ap₂, subst, ◌∙◌, add-one, mod-lt, lt_of_le_of_lt, div-le_self, arith, pow_pos, pow_mono}
+use Rattle.std.proofs.Common.{sym, ap, ◌∙◌, add-one, mod-lt, lt_of_le_of_lt, div-le_self, arith, pow_pos, pow_mono}
 use Rattle.std.proofs.lemmas.Nat.{or_lt, xor_lt, and_le_r}
-use Rattle.permutations.specs.declared.simeck.Subblock.{Subblock}
-use Rattle.permutations.specs.Simeck.{block, turned, mixed, gamma, round, unround, box, unbox, Fit}
+use Rattle.permutations.specs.Simeck.{SubblockWords, block, turned, mixed, gamma, round, unround, box, unbox, Fit}
 use Rattle.permutations.specs.Xors.{xor_round}
 
-pub unround_round : (m g : ℕ) (b : Subblock) → unround m g (round m g b) ≡ b
+pub unround_round : (m g : ℕ) (b : SubblockWords) → unround m g (round m g b) ≡ b
 unround_round m g b = ap (block b.left) (xor_round (mixed m b.left) b.right g)
 
-pub round_unround : (m g : ℕ) (b : Subblock) → round m g (unround m g b) ≡ b
+pub round_unround : (m g : ℕ) (b : SubblockWords) → round m g (unround m g b) ≡ b
 round_unround m g b = ap (λ x. block x b.right) (xor_round (mixed m b.right) b.left g)
 
-pub unbox_box : (m rc u : ℕ) (b : Subblock) → unbox m rc u (box m rc u b) ≡ b
+pub unbox_box : (m rc u : ℕ) (b : SubblockWords) → unbox m rc u (box m rc u b) ≡ b
 unfolding box unbox
 unbox_box m rc zero b = refl
 unbox_box m rc (suc k) b = ap (unbox m rc k) (unround_round m (gamma m rc k) (box m rc k b)) ∙ unbox_box m rc k b
 
-pub box_unbox : (m rc u : ℕ) (b : Subblock) → box m rc u (unbox m rc u b) ≡ b
+pub box_unbox : (m rc u : ℕ) (b : SubblockWords) → box m rc u (unbox m rc u b) ≡ b
 unfolding box unbox
 box_unbox m rc zero b = refl
 box_unbox m rc (suc k) b = ap (round m (gamma m rc k)) (box_unbox m rc k (unround m (gamma m rc k) b)) ∙ round_unround m (gamma m rc k) b
@@ -37,19 +36,19 @@ gamma_lt m rc k h =
     let low : rc / 2 ^ k % 2 < 2 = mod-lt (rc / 2 ^ k) (omega arith) in
     omega arith
 
-pub round_fit : (m g : ℕ) (b : Subblock) → g < 2 ^ m → Fit m b → Fit m (round m g b)
+pub round_fit : (m g : ℕ) (b : SubblockWords) → g < 2 ^ m → Fit m b → Fit m (round m g b)
 round_fit m g b hg h = record { left = xor_lt m _ _ (xor_lt m _ _ (mixed_lt m _ h.left) h.right) hg; right = h.left }
 
-pub unround_fit : (m g : ℕ) (b : Subblock) → g < 2 ^ m → Fit m b → Fit m (unround m g b)
+pub unround_fit : (m g : ℕ) (b : SubblockWords) → g < 2 ^ m → Fit m b → Fit m (unround m g b)
 unround_fit m g b hg h = record { left = h.right; right = xor_lt m _ _ (xor_lt m _ _ (mixed_lt m _ h.right) h.left) hg }
 
 module _ (m : ℕ) (some : 1 ≤ m) (rc : ℕ) where
-  pub box_fit : (u : ℕ) (b : Subblock) → Fit m b → Fit m (box m rc u b)
+  pub box_fit : (u : ℕ) (b : SubblockWords) → Fit m b → Fit m (box m rc u b)
   unfolding box
   box_fit zero b h = h
   box_fit (suc k) b h = round_fit m _ _ (gamma_lt m rc k some) (box_fit k b h)
 
-  pub unbox_fit : (u : ℕ) (b : Subblock) → Fit m b → Fit m (unbox m rc u b)
+  pub unbox_fit : (u : ℕ) (b : SubblockWords) → Fit m b → Fit m (unbox m rc u b)
   unfolding unbox
   unbox_fit zero b h = h
   unbox_fit (suc k) b h = unbox_fit k _ (unround_fit m _ b (gamma_lt m rc k some) h)
@@ -57,19 +56,14 @@ module _ (m : ℕ) (some : 1 ≤ m) (rc : ℕ) where
 -- ---- a turn of the code's loops
 
 -- one round more
-pub box_more : (m rc k g : ℕ) (a x r : Subblock) → 1 ≤ m → (x ≡ box m rc k a) × Fit m x → g ≡ gamma m rc k → r ≡ round m g x → (r ≡ box m rc (k + 1) a) × Fit m r
+pub box_more : (m rc k : ℕ) (a x r : SubblockWords) → x ≡ box m rc k a → r ≡ round m (gamma m rc k) x → r ≡ box m rc (k + 1) a
 unfolding box
-box_more m rc k g a x r some h g_is r_is =
-    (rw add-one (r_is ∙ ap₂ (round m) g_is h.0), subst (Fit m) (sym r_is) (round_fit m g x (subst (λ z. z < 2 ^ m) (sym g_is) (gamma_lt m rc k some)) h.1))
+box_more m rc k a x r x_is r_is = rw add-one (r_is ∙ ap (round m (gamma m rc k)) x_is)
 
 -- one round less is left
-pub unbox_more : (m rc u k g : ℕ) (a x r : Subblock) → 1 ≤ m → 0 < k → (unbox m rc u a ≡ unbox m rc k x) × Fit m x → g ≡ gamma m rc (k - 1) → r ≡ unround m g x
-    → (unbox m rc u a ≡ unbox m rc (k - 1) r) × Fit m r
+pub unbox_more : (m rc u k : ℕ) (a x r : SubblockWords) → 0 < k → unbox m rc u a ≡ unbox m rc k x → r ≡ unround m (gamma m rc (k - 1)) x → unbox m rc u a ≡ unbox m rc (k - 1) r
 unfolding unbox
-unbox_more m rc u zero g a x r some left h g_is r_is = absurd (omega arith)
-unbox_more m rc u (suc k) g a x r some left h g_is r_is =
+unbox_more m rc u zero a x r left x_is r_is = absurd (omega arith)
+unbox_more m rc u (suc k) a x r left x_is r_is =
     let e : suc k - 1 ≡ k = omega arith in
-    let g_at : g ≡ gamma m rc k = g_is ∙ ap (gamma m rc) e in (
-      h.0 ∙ ap (unbox m rc k) (sym (r_is ∙ ap (λ z. unround m z x) g_at)) ∙ ap (λ n. unbox m rc n r) (sym e),
-      subst (Fit m) (sym r_is) (unround_fit m g x (subst (λ z. z < 2 ^ m) (sym g_at) (gamma_lt m rc k some)) h.1),
-    )
+    x_is ∙ ap (unbox m rc k) (sym (r_is ∙ ap (λ n. unround m (gamma m rc n) x) e)) ∙ ap (λ n. unbox m rc n r) (sym e)

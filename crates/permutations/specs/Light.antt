@@ -2,18 +2,17 @@
 use Rattle.std.specs.Prelude.{ℕ, ◌*◌, cond, List, [], ◌∷◌, length, Ok, Err, Result, nat_lt, slice_index, slice_index_or}
 use Rattle.permutations.specs.declared.permutation.NoSuchStep.{NoSuchStep}
 use Rattle.permutations.specs.declared.constants.StepConstants.{StepConstants}
-use Rattle.permutations.specs.declared.steps.State.{State}
 use Rattle.permutations.specs.Bytes.{loads, stores}
 use Rattle.permutations.specs.Constants.{row, constants_192, constants_256}
 use Rattle.permutations.specs.Permutation.{Perm, Walk}
 use Rattle.permutations.specs.Simeck.{block}
-use Rattle.permutations.specs.Steps.{step, unstep, steps, unsteps}
+use Rattle.permutations.specs.Steps.{StateWords, step, unstep, steps, unsteps}
 
 -- the eight words of a state, in order
-abbrev pub words : State → List ℕ
+abbrev pub words : StateWords → List ℕ
 words s = s.s0.left ∷ s.s0.right ∷ s.s1.left ∷ s.s1.right ∷ s.s2.left ∷ s.s2.right ∷ s.s3.left ∷ s.s3.right ∷ []
 
-abbrev pub of_words : List ℕ → State
+abbrev pub of_words : List ℕ → StateWords
 of_words x =
     record {
       s0 = block (slice_index x 0) (slice_index x 1);
@@ -22,10 +21,10 @@ of_words x =
       s3 = block (slice_index x 6) (slice_index x 7);
     }
 
-abbrev pub load_state : ℕ → List ℕ → State
+abbrev pub load_state : ℕ → List ℕ → StateWords
 load_state w s = of_words (loads w 8 s)
 
-abbrev pub store_state : ℕ → State → List ℕ
+abbrev pub store_state : ℕ → StateWords → List ℕ
 store_state w s = stores w (words s)
 
 -- all steps of a table, and all of them undone

@@ -7,10 +7,10 @@ use Rattle.permutations.specs.Permutation.{Bijective, Walks}
 use Rattle.permutations.specs.Steps.{Small}
 use Rattle.permutations.specs.Loading
 
-small_192 : AllByRecursion Small constants_192
+pub small_192 : AllByRecursion Small constants_192
 small_192 = search rules
 
-small_256 : AllByRecursion Small constants_256
+pub small_256 : AllByRecursion Small constants_256
 small_256 = search rules
 
 pub bijective_192 : Bijective light_192

@@ -6,11 +6,10 @@ use Rattle.std.proofs.Math.Seq.{take_all}
 use Rattle.std.proofs.lemmas.List.{take_more}
 use Rattle.std.specs.List.{AllByRecursion}
 use Rattle.std.proofs.ByRecursion.{All-get_or, All-take}
-use Rattle.permutations.specs.declared.steps.State.{State}
 use Rattle.permutations.specs.declared.constants.StepConstants.{StepConstants}
 use Rattle.permutations.specs.Permutation.{Bytes, Bijective, Walks, stepped, unstepped}
 use Rattle.permutations.specs.Bytes.{loads, stores}
-use Rattle.permutations.specs.Steps.{Small, step, unstep, steps, unsteps, FitsIn}
+use Rattle.permutations.specs.Steps.{StateWords, Small, step, unstep, steps, unsteps, FitsIn}
 use Rattle.permutations.specs.Light.{words, of_words, load_state, store_state, forward, backward, forward_step, backward_step, light, light_walk}
 use Rattle.permutations.specs.Constants.{row}
 use Rattle.permutations.specs.Words.{loads_stores, stores_loads, loads_lt, length_loads, length_stores, stores_bytes}
@@ -21,7 +20,7 @@ pow_bytes zero = refl
 pow_bytes (suc w) = pow-suc 256 w ∙ ap (λ z. z * 256) (pow_bytes w) ∙ sym (pow-add 2 (8 * w) 8) ∙ ap (λ z. 2 ^ z) (omega (arith, mul-suc 8 w))
 
 module _ (w : ℕ) where
-  words_lt : (s : State) → FitsIn (8 * w) s → AllByRecursion (λ x. x < 256 ^ w) (words s)
+  words_lt : (s : StateWords) → FitsIn (8 * w) s → AllByRecursion (λ x. x < 256 ^ w) (words s)
   words_lt s h =
       subst (λ (z : ℕ). AllByRecursion (λ x. x < z) (words s)) (sym (pow_bytes w))
       (h.s0.left, (h.s0.right, (h.s1.left, (h.s1.right, (h.s2.left, (h.s2.right, (h.s3.left, (h.s3.right, tt))))))))
@@ -43,21 +42,21 @@ module _ (w : ℕ) where
       }
 
   -- a state that fits is loaded as it was stored
-  reload : (s : State) → FitsIn (8 * w) s → of_words (loads w 8 (stores w (words s))) ≡ s
+  reload : (s : StateWords) → FitsIn (8 * w) s → of_words (loads w 8 (stores w (words s))) ≡ s
   reload s h = ap of_words (loads_stores w (words s) (words_lt s h))
 
   restore : (s : List ℕ) → Bytes (w * 8) s → stores w (words (of_words (loads w 8 s))) ≡ s
   unfolding loads
   restore s b = stores_loads w 8 s b.size b.small
 
-  stored : (s : State) → Bytes (w * 8) (stores w (words s))
+  stored : (s : StateWords) → Bytes (w * 8) (stores w (words s))
   stored s = record { size = length_stores w (words s); small = stores_bytes w (words s) }
 
   module _ (u : ℕ) (ks : List StepConstants) (small : AllByRecursion Small ks) (some : 1 ≤ w) (most : w ≤ 8) where
     pub backward_forward : (s : List ℕ) → Bytes (w * 8) s → backward w u ks (forward w u ks s) ≡ s
     unfolding forward backward
     backward_forward s b =
-        let x : State = of_words (loads w 8 s) in
+        let x : StateWords = of_words (loads w 8 s) in
         let fit : FitsIn (8 * w) (steps (8 * w) u ks x) = steps_fit (8 * w) (omega arith) u ks x small (of_words_fit s b) in
         ap (λ y. stores w (words (unsteps (8 * w) u ks y))) (reload (steps (8 * w) u ks x) fit)
         ∙ ap (λ y. stores w (words y)) (unsteps_steps (8 * w) u ks x)
@@ -66,7 +65,7 @@ module _ (w : ℕ) where
     pub forward_backward : (s : List ℕ) → Bytes (w * 8) s → forward w u ks (backward w u ks s) ≡ s
     unfolding forward backward
     forward_backward s b =
-        let x : State = of_words (loads w 8 s) in
+        let x : StateWords = of_words (loads w 8 s) in
         let fit : FitsIn (8 * w) (unsteps (8 * w) u ks x) = unsteps_fit (8 * w) (omega arith) u ks x small (of_words_fit s b) in
         ap (λ y. stores w (words (steps (8 * w) u ks y))) (reload (unsteps (8 * w) u ks x) fit)
         ∙ ap (λ y. stores w (words y)) (steps_unsteps (8 * w) u ks x)
@@ -99,7 +98,7 @@ module _ (w : ℕ) where
     unfolding stepped steps forward_step
     stepped_is zero s h b = sym (restore s b)
     stepped_is (suc n) s h b =
-        let x : State = load_state w s in
+        let x : StateWords = load_state w s in
         let row_n = get_or ks n (row 0 0 0 0) in
         let fit : FitsIn (8 * w) (steps (8 * w) u (take n ks) x) = steps_fit (8 * w) (omega arith) u (take n ks) x (All-take Small n ks small) (of_words_fit s b) in
         ap (forward_step w u ks n) (stepped_is n s (omega arith) b)
@@ -110,7 +109,7 @@ module _ (w : ℕ) where
     unfolding unstepped unsteps backward_step
     unstepped_is zero s h b = sym (restore s b)
     unstepped_is (suc n) s h b =
-        let x : State = load_state w s in
+        let x : StateWords = load_state w s in
         let row_n = get_or ks n (row 0 0 0 0) in
         unstepped_is n (backward_step w u ks n s) (omega arith) (stored (unstep (8 * w) u row_n x))
         ∙ ap (λ y. store_state w (unsteps (8 * w) u (take n ks) y)) (unstep_loaded n s (omega arith) b)

@@ -1,28 +1,26 @@
 -- A step and its inverse undo each other, and so do the steps of a table. Assumes nothing.
-use Rattle.std.specs.Prelude.{◌≡◌, ℕ, ◌+◌, ◌-◌, ◌^◌, ◌<◌, ◌≤◌, Bool, true, false, cond, List, [], ◌∷◌, ◌++◌, length, take, drop, Ok, Err, Result, nat_lt, slice_index_or, refl}
+use Rattle.std.specs.Prelude.{◌≡◌, ℕ, ◌+◌, ◌^◌, ◌<◌, ◌≤◌, Bool, true, false, cond, List, [], ◌∷◌, ◌++◌, length, take, Ok, Err, Result, nat_lt, slice_index_or, refl}
 use Rattle.std.proofs.Common.{ap, ◌∙◌, arith, pow_mono}
 use Rattle.permutations.specs.declared.permutation.NoSuchStep.{NoSuchStep}
 use Rattle.permutations.specs.Constants.{row}
 use Rattle.permutations.specs.Light.{row_at}
-use Rattle.std.proofs.lemmas.List.{take_more, drop_more}
+use Rattle.std.proofs.lemmas.List.{take_more}
 use Rattle.std.proofs.lemmas.Bool.{ltb-true}
 use Rattle.std.proofs.lemmas.Nat.{xor_lt}
 use Rattle.std.specs.List.{AllByRecursion}
-use Rattle.permutations.specs.declared.simeck.Subblock.{Subblock}
-use Rattle.permutations.specs.declared.steps.State.{State}
 use Rattle.permutations.specs.declared.constants.StepConstants.{StepConstants}
-use Rattle.permutations.specs.Simeck.{block, box, Fit}
-use Rattle.permutations.specs.Steps.{xored, ones_but, step, unstep, steps, unsteps, Small, FitsIn}
+use Rattle.permutations.specs.Simeck.{SubblockWords, block, box, Fit}
+use Rattle.permutations.specs.Steps.{StateWords, xored, ones_but, step, unstep, steps, unsteps, Small, FitsIn}
 use Rattle.permutations.specs.Xors.{xor_mix}
 use Rattle.permutations.specs.Boxes.{unbox_box, box_unbox, box_fit, unbox_fit}
 
-xored_mix : (x y c : Subblock) → xored (xored (xored (xored x y) c) y) c ≡ x
+xored_mix : (x y c : SubblockWords) → xored (xored (xored (xored x y) c) y) c ≡ x
 xored_mix x y c i = block (xor_mix x.left y.left c.left i) (xor_mix x.right y.right c.right i)
 
-abbrev four : Subblock → Subblock → Subblock → Subblock → State
+abbrev four : SubblockWords → SubblockWords → SubblockWords → SubblockWords → StateWords
 four a b c d = record { s0 = a; s1 = b; s2 = c; s3 = d }
 
-pub unstep_step : (m u : ℕ) (k : StepConstants) (s : State) → unstep m u k (step m u k s) ≡ s
+pub unstep_step : (m u : ℕ) (k : StepConstants) (s : StateWords) → unstep m u k (step m u k s) ≡ s
 unstep_step m u k s i =
     four
     (xored_mix s.s0 (box m k.rc0 u s.s1) (ones_but m k.sc0) i)
@@ -30,34 +28,34 @@ unstep_step m u k s i =
     (xored_mix s.s2 (box m k.rc1 u s.s3) (ones_but m k.sc1) i)
     (unbox_box m k.rc1 u s.s3 i)
 
-pub step_unstep : (m u : ℕ) (k : StepConstants) (s : State) → step m u k (unstep m u k s) ≡ s
+pub step_unstep : (m u : ℕ) (k : StepConstants) (s : StateWords) → step m u k (unstep m u k s) ≡ s
 step_unstep m u k s =
-    let c0 : Subblock = ones_but m k.sc0 in
-    let c1 : Subblock = ones_but m k.sc1 in
-    let shape : Subblock → Subblock → State = λ b1 b3. four b1 (xored (xored (xored (xored s.s1 s.s2) c1) b3) c1) b3 (xored (xored (xored (xored s.s3 s.s0) c0) b1) c0) in
+    let c0 : SubblockWords = ones_but m k.sc0 in
+    let c1 : SubblockWords = ones_but m k.sc1 in
+    let shape : SubblockWords → SubblockWords → StateWords = λ b1 b3. four b1 (xored (xored (xored (xored s.s1 s.s2) c1) b3) c1) b3 (xored (xored (xored (xored s.s3 s.s0) c0) b1) c0) in
     let boxes : step m u k (unstep m u k s) ≡ shape s.s0 s.s2 = λ i. shape (box_unbox m k.rc0 u s.s0 i) (box_unbox m k.rc1 u s.s2 i) in
     boxes ∙ (λ i. four s.s0 (xored_mix s.s1 s.s2 c1 i) s.s2 (xored_mix s.s3 s.s0 c0 i))
 
-pub unsteps_steps : (m u : ℕ) (ks : List StepConstants) (s : State) → unsteps m u ks (steps m u ks s) ≡ s
+pub unsteps_steps : (m u : ℕ) (ks : List StepConstants) (s : StateWords) → unsteps m u ks (steps m u ks s) ≡ s
 unfolding steps unsteps
 unsteps_steps m u [] s = refl
 unsteps_steps m u (k ∷ ks) s = ap (unstep m u k) (unsteps_steps m u ks (step m u k s)) ∙ unstep_step m u k s
 
-pub steps_unsteps : (m u : ℕ) (ks : List StepConstants) (s : State) → steps m u ks (unsteps m u ks s) ≡ s
+pub steps_unsteps : (m u : ℕ) (ks : List StepConstants) (s : StateWords) → steps m u ks (unsteps m u ks s) ≡ s
 unfolding steps unsteps
 steps_unsteps m u [] s = refl
 steps_unsteps m u (k ∷ ks) s = ap (steps m u ks) (step_unstep m u k (unsteps m u ks s)) ∙ steps_unsteps m u ks s
 
 -- ---- bounds
 
-xored_fit : (m : ℕ) (a b : Subblock) → Fit m a → Fit m b → Fit m (xored a b)
+pub xored_fit : (m : ℕ) (a b : SubblockWords) → Fit m a → Fit m b → Fit m (xored a b)
 xored_fit m a b h k = record { left = xor_lt m _ _ h.left k.left; right = xor_lt m _ _ h.right k.right }
 
 module _ (m : ℕ) (wide : 8 ≤ m) (u : ℕ) where
   ones_fit : (sc : ℕ) → sc < 256 → Fit m (ones_but m sc)
   ones_fit sc h = let big : 2 ^ 8 ≤ 2 ^ m = pow_mono wide in record { left = omega arith; right = omega arith }
 
-  pub step_fit : (k : StepConstants) (s : State) → Small k → FitsIn m s → FitsIn m (step m u k s)
+  pub step_fit : (k : StepConstants) (s : StateWords) → Small k → FitsIn m s → FitsIn m (step m u k s)
   step_fit k s c h =
       let some : 1 ≤ m = omega arith in
       let b1 = box_fit m some k.rc0 u s.s1 h.s1 in
@@ -69,7 +67,7 @@ module _ (m : ℕ) (wide : 8 ≤ m) (u : ℕ) where
         s3 = xored_fit m _ _ (xored_fit m _ _ h.s0 b1) (ones_fit _ c.sc0);
       }
 
-  pub unstep_fit : (k : StepConstants) (s : State) → Small k → FitsIn m s → FitsIn m (unstep m u k s)
+  pub unstep_fit : (k : StepConstants) (s : StateWords) → Small k → FitsIn m s → FitsIn m (unstep m u k s)
   unstep_fit k s c h =
       let some : 1 ≤ m = omega arith in
       record {
@@ -80,36 +78,30 @@ module _ (m : ℕ) (wide : 8 ≤ m) (u : ℕ) where
       }
 
   -- every entry of the table is small
-  pub steps_fit : (ks : List StepConstants) (s : State) → AllByRecursion Small ks → FitsIn m s → FitsIn m (steps m u ks s)
+  pub steps_fit : (ks : List StepConstants) (s : StateWords) → AllByRecursion Small ks → FitsIn m s → FitsIn m (steps m u ks s)
   unfolding steps
   steps_fit [] s c h = h
   steps_fit (k ∷ ks) s c h = steps_fit ks _ c.1 (step_fit k s c.0 h)
 
-  pub unsteps_fit : (ks : List StepConstants) (s : State) → AllByRecursion Small ks → FitsIn m s → FitsIn m (unsteps m u ks s)
+  pub unsteps_fit : (ks : List StepConstants) (s : StateWords) → AllByRecursion Small ks → FitsIn m s → FitsIn m (unsteps m u ks s)
   unfolding unsteps
   unsteps_fit [] s c h = h
   unsteps_fit (k ∷ ks) s c h = unstep_fit k _ c.0 (unsteps_fit ks s c.1 h)
 
 -- ---- one step more
 
-steps_push : (m u : ℕ) (ks : List StepConstants) (k : StepConstants) (s : State) → steps m u (ks ++ (k ∷ [])) s ≡ step m u k (steps m u ks s)
+steps_push : (m u : ℕ) (ks : List StepConstants) (k : StepConstants) (s : StateWords) → steps m u (ks ++ (k ∷ [])) s ≡ step m u k (steps m u ks s)
 unfolding steps
 steps_push m u [] k s = refl
 steps_push m u (j ∷ ks) k s = steps_push m u ks k (step m u j s)
 
-pub unsteps_push : (m u : ℕ) (ks : List StepConstants) (k : StepConstants) (s : State) → unsteps m u (ks ++ (k ∷ [])) s ≡ unsteps m u ks (unstep m u k s)
+pub unsteps_push : (m u : ℕ) (ks : List StepConstants) (k : StepConstants) (s : StateWords) → unsteps m u (ks ++ (k ∷ [])) s ≡ unsteps m u ks (unstep m u k s)
 unfolding unsteps
 unsteps_push m u [] k s = refl
 unsteps_push m u (j ∷ ks) k s = ap (unstep m u j) (unsteps_push m u ks k s)
 
-pub steps_more : (m u : ℕ) (ks : List StepConstants) (i : ℕ) (d : StepConstants) (s : State) → i < length ks → steps m u (take (i + 1) ks) s ≡ step m u (slice_index_or ks i d) (steps m u (take i ks) s)
+pub steps_more : (m u : ℕ) (ks : List StepConstants) (i : ℕ) (d : StepConstants) (s : StateWords) → i < length ks → steps m u (take (i + 1) ks) s ≡ step m u (slice_index_or ks i d) (steps m u (take i ks) s)
 steps_more m u ks i d s h = ap (λ z. steps m u z s) (take_more ks i d h) ∙ steps_push m u (take i ks) (slice_index_or ks i d) s
-
-pub unsteps_more : (m u : ℕ) (ks : List StepConstants) (i : ℕ) (d : StepConstants) (s : State) → 0 < i → i ≤ length ks → unsteps m u (drop (i - 1) ks) s ≡ unstep m u (slice_index_or ks (i - 1) d) (unsteps m u (drop i ks) s)
-unfolding unsteps
-unsteps_more m u ks i d s h l =
-    let e : i - 1 + 1 ≡ i = omega arith in
-    ap (λ z. unsteps m u z s) (drop_more ks (i - 1) d (omega arith) ∙ ap (λ n. slice_index_or ks (i - 1) d ∷ drop n ks) e)
 
 -- ---- the row of a step
 

@@ -1,13 +1,13 @@
 -- What is stored is loaded again. Assumes nothing.
-use Rattle.std.specs.Prelude.{◌≡◌, ℕ, zero, suc, ◌+◌, ◌*◌, ◌/◌, ◌%◌, ◌^◌, ◌<◌, ◌≤◌, List, [], ◌∷◌, ◌++◌, length, take, drop, slice_index, refl}
-use Rattle.std.proofs.Common.{sym, ap, ap₂, subst, ◌∙◌, append-nil, append_assoc, mod-lt, mod-eq_of_lt, mul_assoc, mul-suc, mul-zero, suc-mul, zero-mul, mul_comm, mul-le-mul_left, div-one, arith, length-append, length-take, length-drop, take-append-drop, take_at, drop_at, drop-drop, add-one}
+use Rattle.std.specs.Prelude.{◌≡◌, ℕ, zero, suc, ◌+◌, ◌-◌, ◌*◌, ◌/◌, ◌%◌, ◌^◌, ◌<◌, ◌≤◌, List, [], ◌∷◌, ◌++◌, length, take, drop, replicate, slice_index, refl}
+use Rattle.std.proofs.Common.{zero-add, take_all, sym, ap, ap₂, subst, ◌∙◌, append-nil, append_assoc, mod-lt, mod-eq_of_lt, mul_assoc, mul-suc, mul-zero, suc-mul, zero-mul, mul_comm, mul-le-mul_left, div-one, arith, length-append, length-take, length-drop, take-append-drop, take_at, drop_at, drop-drop, add-one}
 use Rattle.std.proofs.Math.Nat.{pow-succ', one-le-pow, mod-one, mul-add-div_right, mul-add-mod_self_right}
 use Rattle.std.proofs.Math.Arith.{digits_lt, digits_div, mod-mul}
 use Rattle.std.specs.List.{AllByRecursion}
 use Rattle.std.proofs.ByRecursion.{All-append, All-take, All-drop}
 use borrow.Rule.Slice.PartMut.{put_mid}
 use Rattle.std.proofs.lemmas.Slice.{take-put_mid}
-use Rattle.std.proofs.lemmas.List.{nil_from_length, take_more}
+use Rattle.std.proofs.lemmas.List.{nil_from_length, take-replicate, take_more, drop_all}
 use Rattle.permutations.specs.Bytes.{load, store, loads, stores}
 
 abbrev pub Byte : ℕ → Type 0
@@ -123,6 +123,37 @@ store_3 x = ap (λ z. x / 65536 % 256 ∷ x / 256 % 256 ∷ z % 256 ∷ []) (sym
 pub store_4 : (x : ℕ) → x / 16777216 % 256 ∷ x / 65536 % 256 ∷ x / 256 % 256 ∷ x % 256 ∷ [] ≡ store 4 x
 unfolding store
 store_4 x = ap (λ z. x / 16777216 % 256 ∷ z) (store_3 x)
+
+load_zeros : (n : ℕ) (bs : List ℕ) → load (replicate n 0 ++ bs) ≡ load bs
+unfolding load
+load_zeros zero bs = refl
+load_zeros (suc n) bs = ap₂ (λ a b. a + b) (zero-mul (256 ^ length (replicate n 0 ++ bs))) (load_zeros n bs) ∙ zero-add (load bs)
+
+-- the bytes of a word at the end of four
+pub load_end : (n : ℕ) (bs : List ℕ) → n ≤ 4 → load (put_mid (4 - n) (4 - (4 - n)) (0 ∷ 0 ∷ 0 ∷ 0 ∷ []) bs) ≡ load bs
+load_end n bs h =
+    let k : ℕ = 4 - n in
+    let z : List ℕ = 0 ∷ 0 ∷ 0 ∷ 0 ∷ [] in
+    ap₂ (λ a b. load (a ++ (bs ++ b))) (take-replicate k 4 0 (omega arith)) (drop_all (4 - k) (drop k z) (omega (arith, length-drop k z)))
+    ∙ load_zeros k (bs ++ [])
+    ∙ ap load (append-nil bs)
+
+drop_store : (k n m x : ℕ) → m ≡ k + n → drop k (store m x) ≡ store n x
+unfolding store
+drop_store zero n m x e = ap (λ z. store z x) (e ∙ zero-add n)
+drop_store (suc k) n zero x e = absurd (omega arith)
+drop_store (suc k) n (suc m) x e = drop_store k n m x (omega arith)
+
+-- the last n of four bytes
+pub store_end : (n x : ℕ) → n ≤ 4 → take (4 - (4 - n)) (drop (4 - n) (x / 16777216 % 256 ∷ x / 65536 % 256 ∷ x / 256 % 256 ∷ x % 256 ∷ [])) ≡ store n x
+store_end n x h =
+    let k : ℕ = 4 - n in
+    ap (λ z. take (4 - k) (drop k z)) (store_4 x)
+    ∙ ap (take (4 - k)) (drop_store k n 4 x (omega arith))
+    ∙ take_all (4 - k) (store n x) (omega (arith, length_store n x))
+
+pub part_length : (i w : ℕ) → (i + 1) * w - i * w ≡ w
+part_length i w = let e : (i + 1) * w ≡ i * w + w = ap (λ z. z * w) (add-one i) ∙ suc-mul i w in omega arith
 
 pub part_end : (i w n l : ℕ) → i < n → l ≡ w * n → i * w + w ≤ l
 part_end i w n l h e = omega (arith, mul-le-mul_left w h, mul-suc w i, mul_comm i w)

@@ -5,12 +5,14 @@ ghost use Rattle.permutations.specs.Benches;
 
 use crate::permutation::{Bijection, NoSuchStep, Permutation, Stepped, Steps};
 
+// The bytes of a xored with those of b.
 fn xor_into(a: &[u8], b: &[u8], out: &mut [u8])
     requires { (length a.now ≡ length out.old) × (length b.now ≡ length out.old) }
     ensures { out.new ≡ xors a.now b.now }
 {
-    for i in 0..out.len() {
-        out[i] = a[i] ^ b[i];
+    // By index: a proof forgets what is written through zip.
+    for (i, x) in out.iter_mut().enumerate() {
+        *x = a[i] ^ b[i];
     }
 }
 

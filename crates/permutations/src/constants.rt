@@ -8,7 +8,7 @@ pub struct StepConstants {
 }
 
 // How many steps each sLiSCP-light permutation has.
-pub(crate) const STEPS: usize = 18;
+pub const STEPS: usize = 18;
 
 // sLiSCP-light-[192]
 #[rattlefmt::skip]

@@ -12,5 +12,5 @@ mod width;
 
 pub use bench::Bench;
 pub use known::{FirstSteps, first_steps};
-pub use light::{Light192, Light256};
+pub use light::{Light, Light192, Light256};
 pub use permutation::{Bijection, NoSuchStep, Permutation, Stepped, Steps, there_and_back};

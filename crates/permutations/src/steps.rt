@@ -1,83 +1,102 @@
-ghost use Rattle.std.specs.Prelude.{◌≡◌};
-ghost use Rattle.permutations.specs.Steps.{xored, ones_but, step, unstep, steps, unsteps, FitsIn};
+ghost use Rattle.std.specs.Prelude.{◌≡◌, ◌*◌};
+ghost use Rattle.permutations.specs.Light.{words, load_state, store_state};
+ghost use Rattle.permutations.specs.Steps.{StateWords, step, unstep, steps, unsteps};
 
-use crate::constants::{STEPS, StepConstants};
-use crate::simeck::{Subblock, two_boxes, two_unboxes};
-use crate::width::Width;
+use crate::constants::StepConstants;
+use crate::simeck::{Subblock, store_word, two_boxes, two_unboxes};
+use crate::width::{StateBytes, Width};
+use std::marker::Model;
 
 // The state in words.
-#[derive(Clone, Copy)]
-pub struct State {
-    pub s0: Subblock,
-    pub s1: Subblock,
-    pub s2: Subblock,
-    pub s3: Subblock,
+#[derive(Drop)]
+pub struct State<W: Width> {
+    s0: Subblock<W>,
+    s1: Subblock<W>,
+    s2: Subblock<W>,
+    s3: Subblock<W>,
 }
 
-fn xor_blocks(a: Subblock, b: Subblock) -> Subblock
-    ensures { result ≡ xored a b }
-{
-    Subblock {
-        left: a.left ^ b.left,
-        right: a.right ^ b.right,
-    }
+impl<W: Width> Model for State<W> {
+    ghost Value = { StateWords };
+
+    ghost view = { λ s. record { s0 = s.s0; s1 = s.s1; s2 = s.s2; s3 = s.s3 } };
 }
 
-// What a step xors in: all ones but for the last byte, which is the step constant.
-fn step_block<W: Width>(sc: u8) -> Subblock
-    ensures { result ≡ ones_but W.m sc }
-{
-    let ones = W::ones();
-    Subblock {
-        left: ones,
-        right: ones - 255 + sc as u32,
+impl<W: Width> State<W> {
+    // The words of a state's bytes.
+    pub(crate) fn load<const B: usize>(state: &[u8; B]) -> Self
+    where
+        W: StateBytes<B>,
+        ensures { result ≡ load_state W.BYTES state.now }
+    {
+        State {
+            s0: Subblock::load(state, 0),
+            s1: Subblock::load(state, 1),
+            s2: Subblock::load(state, 2),
+            s3: Subblock::load(state, 3),
+        }
     }
-}
 
-pub(crate) fn step_forward<W: Width>(s: State, k: StepConstants) -> State
-    requires { FitsIn W.m s }
-    ensures { result ≡ step W.m W.u k s }
-{
-    let (b1, b3) = two_boxes::<W>(s.s1, s.s3, k.rc0, k.rc1);
-    State {
-        s0: b1,
-        s1: xor_blocks(xor_blocks(s.s2, b3), step_block::<W>(k.sc1)),
-        s2: b3,
-        s3: xor_blocks(xor_blocks(s.s0, b1), step_block::<W>(k.sc0)),
+    // The eight words, in order.
+    fn words(self) -> [u32; 8]
+        ensures { result ≡ words self }
+    {
+        let State { s0, s1, s2, s3 } = self;
+        [
+            s0.left, s0.right, s1.left, s1.right, s2.left, s2.right, s3.left, s3.right,
+        ]
     }
-}
 
-pub(crate) fn step_back<W: Width>(s: State, k: StepConstants) -> State
-    requires { FitsIn W.m s }
-    ensures { result ≡ unstep W.m W.u k s }
-{
-    let (s1, s3) = two_unboxes::<W>(s.s0, s.s2, k.rc0, k.rc1);
-    State {
-        s0: xor_blocks(xor_blocks(s.s3, s.s0), step_block::<W>(k.sc0)),
-        s1,
-        s2: xor_blocks(xor_blocks(s.s1, s.s2), step_block::<W>(k.sc1)),
-        s3,
+    // The bytes of the words.
+    pub(crate) fn store<const B: usize>(self, state: &mut [u8; B])
+    where
+        W: StateBytes<B>,
+        ensures { state.new ≡ store_state W.BYTES self }
+    {
+        W::sized();
+        let bytes = &mut state[..];
+        // By index: a proof forgets what is written through chunks_exact_mut.
+        for (i, word) in self.words().iter().enumerate() {
+            store_word::<W>(*word, &mut bytes[i * W::BYTES..(i + 1) * W::BYTES]);
+        }
     }
-}
 
-pub(crate) fn all_forward<W: Width>(start: State) -> State
-    requires { FitsIn W.m start }
-    ensures { result ≡ steps W.m W.u W.table start }
-{
-    let mut s = start;
-    for i in 0..STEPS {
-        s = step_forward::<W>(s, W::constants_of(i));
+    // One step, under its constants.
+    pub(crate) fn step(self, k: StepConstants) -> Self
+        ensures { result ≡ step (8 * W.BYTES) W.ROUNDS k self }
+    {
+        let (b1, b3) = two_boxes(self.s1, self.s3, k.rc0, k.rc1);
+        let s1 = self.s2 ^ &b3 ^ &Subblock::ones_but(k.sc1);
+        let s3 = self.s0 ^ &b1 ^ &Subblock::ones_but(k.sc0);
+        State {
+            s0: b1,
+            s1,
+            s2: b3,
+            s3,
+        }
     }
-    s
-}
 
-pub(crate) fn all_back<W: Width>(start: State) -> State
-    requires { FitsIn W.m start }
-    ensures { result ≡ unsteps W.m W.u W.table start }
-{
-    let mut s = start;
-    for i in (0..STEPS).rev() {
-        s = step_back::<W>(s, W::constants_of(i));
+    // The same step undone.
+    pub(crate) fn unstep(self, k: StepConstants) -> Self
+        ensures { result ≡ unstep (8 * W.BYTES) W.ROUNDS k self }
+    {
+        let s0 = self.s3 ^ &self.s0 ^ &Subblock::ones_but(k.sc0);
+        let s2 = self.s1 ^ &self.s2 ^ &Subblock::ones_but(k.sc1);
+        let (s1, s3) = two_unboxes(self.s0, self.s2, k.rc0, k.rc1);
+        State { s0, s1, s2, s3 }
     }
-    s
+
+    // All steps, the first first.
+    pub(crate) fn forward(self) -> Self
+        ensures { result ≡ steps (8 * W.BYTES) W.ROUNDS W.table self }
+    {
+        W::constants().iter().fold(self, |s, k| s.step(*k))
+    }
+
+    // All steps undone, the last first.
+    pub(crate) fn back(self) -> Self
+        ensures { result ≡ unsteps (8 * W.BYTES) W.ROUNDS W.table self }
+    {
+        W::constants().iter().rev().fold(self, |s, k| s.unstep(*k))
+    }
 }

@@ -1,169 +1,149 @@
-ghost use Rattle.std.specs.Prelude.{◌≡◌, ℕ, ◌-◌, ◌*◌, ◌^◌, ◌<◌, ◌≤◌, List, length, slice_index_or};
+ghost use Rattle.std.specs.Prelude.{◌≡◌, ℕ, ◌-◌, ◌*◌, ◌^◌, ◌<◌, ◌≤◌, List, length, refl};
 ghost use Rattle.std.specs.List.{AllByRecursion};
 ghost use Rattle.permutations.specs.declared.constants.StepConstants.{StepConstants};
-ghost use Rattle.permutations.specs.Bytes.{load, store};
-ghost use Rattle.permutations.specs.Constants.{row, constants_192, constants_256};
+ghost use Rattle.permutations.specs.declared.constants.TheConstants.{STEPS};
+ghost use Rattle.permutations.specs.Constants.{constants_192, constants_256};
 ghost use Rattle.permutations.specs.Simeck.{turned};
 ghost use Rattle.permutations.specs.Steps.{Small};
-ghost use Rattle.std.proofs.Common.{rules};
+ghost use Rattle.permutations.specs.Lights.{small_192, small_256};
+ghost use Rattle.std.proofs.Common.{lit≤};
 
-use crate::constants::{CONSTANTS_192, CONSTANTS_256, StepConstants};
+use crate::constants::{CONSTANTS_192, CONSTANTS_256, STEPS, StepConstants};
 
-// A width of words: m bits, which are w bytes, with boxes of u rounds and the constants of each step.
-pub(crate) trait Width {
-    ghost m: { ℕ };
+// A width of words, with the rounds of its box and the constants of each step.
+pub trait Width {
+    // The bytes of a word, at least one and at most four.
+    const BYTES: usize;
 
-    ghost w: { ℕ };
+    ghost BYTES: { ℕ };
 
-    ghost u: { ℕ };
+    // The rounds of a box.
+    const ROUNDS: u32;
+
+    ghost ROUNDS: { ℕ };
+
+    // A word of ones.
+    const ONES: u32;
+
+    ghost ONES: { ℕ };
 
     ghost table: { List StepConstants };
 
+    ghost some: { 1 ≤ BYTES };
+
+    ghost most: { BYTES ≤ 4 };
+
+    // Step constants are bytes.
+    ghost small: { AllByRecursion Small table };
+
+    fn constants() -> &'static [StepConstants; STEPS]
+        ensures { result.now ≡ table };
+
     // A word turned left.
     fn turn(x: u32, by: u32) -> u32
-        requires { (x < 2 ^ m) × ((1 ≤ by) × (by ≤ 8)) }
-        ensures { result ≡ turned m by x };
-
-    // A word of ones.
-    fn ones() -> u32
-        ensures { result ≡ 2 ^ m - 1 };
-
-    fn rounds() -> u32
-        ensures { result ≡ u };
-
-    fn word_bytes() -> usize
-        ensures { result ≡ w };
-
-    fn load_word(part: &[u8]) -> u32
-        requires { length part.now ≡ w }
-        ensures { result ≡ load part.now };
-
-    fn store_word(x: u32, part: &mut [u8])
-        requires { length part.old ≡ w }
-        ensures { part.new ≡ store w x };
-
-    fn constants_of(i: usize) -> StepConstants
-        requires { i < 18 }
-        ensures { result ≡ slice_index_or table i (row 0 0 0 0) };
-
-    // A word is w bytes of 8 bits, at least one and at most four.
-    ghost eight: { m ≡ 8 * w };
-
-    ghost wide: { 8 ≤ m };
-
-    ghost narrow: { m ≤ 32 };
+        requires { (x < 2 ^ (8 * BYTES)) × ((1 ≤ by) × (by ≤ 8)) }
+        ensures { result ≡ turned (8 * BYTES) by x };
 
     // A round constant is a byte, so there are at most 8 rounds.
-    ghost few: { u ≤ 8 };
+    ghost few: { ROUNDS ≤ 8 };
 
-    // Eighteen steps, whose step constants are bytes.
-    ghost long: { length table ≡ 18 };
+    ghost ones: { ONES ≡ 2 ^ (8 * BYTES) - 1 };
 
-    ghost small: { AllByRecursion Small table };
+    ghost long: { length table ≡ STEPS };
 }
 
-pub(crate) struct Bits24;
+// The width whose state has B bytes.
+pub trait StateBytes<const B: usize>: Width {
+    // B is the size that is meant; generic code calls this to know it.
+    fn sized()
+        ensures { B ≡ Self.Width.BYTES * 8 };
+}
+
+// The words of sLiSCP-light-[192].
+pub struct Bits24;
 
 impl Width for Bits24 {
-    ghost m = { 24 };
+    const BYTES: usize = 3;
 
-    ghost w = { 3 };
+    const ROUNDS: u32 = 6;
 
-    ghost u = { 6 };
+    const ONES: u32 = 0xff_ffff;
+
+    ghost BYTES = { 3 };
+
+    ghost ROUNDS = { 6 };
+
+    ghost ONES = { 0xff_ffff };
 
     ghost table = { constants_192 };
 
-    ghost eight = { Prim.search rules };
+    ghost some = { lit≤ tt };
 
-    ghost wide = { Prim.search rules };
+    ghost most = { lit≤ tt };
 
-    ghost narrow = { Prim.search rules };
+    ghost few = { lit≤ tt };
 
-    ghost few = { Prim.search rules };
+    ghost ones = { refl };
 
-    ghost long = { Prim.search rules };
+    ghost long = { refl };
 
-    ghost small = { Prim.search rules };
+    ghost small = { small_192 };
+
+    fn constants() -> &'static [StepConstants; STEPS] {
+        &CONSTANTS_192
+    }
 
     // With its own first byte after it, the word turns as one of 32 bits.
     fn turn(x: u32, by: u32) -> u32 {
         let twice = (x << 8) | (x >> 16);
         twice.rotate_left(by) >> 8
     }
-
-    fn ones() -> u32 {
-        0xff_ffff
-    }
-
-    fn rounds() -> u32 {
-        6
-    }
-
-    fn word_bytes() -> usize {
-        3
-    }
-
-    fn load_word(part: &[u8]) -> u32 {
-        u32::from_be_bytes([0, part[0], part[1], part[2]])
-    }
-
-    fn store_word(x: u32, part: &mut [u8]) {
-        part.copy_from_slice(&x.to_be_bytes()[1..4]);
-    }
-
-    fn constants_of(i: usize) -> StepConstants {
-        CONSTANTS_192[i]
-    }
 }
 
-pub(crate) struct Bits32;
+impl StateBytes<24> for Bits24 {
+    fn sized() {}
+}
+
+// The words of sLiSCP-light-[256].
+pub struct Bits32;
 
 impl Width for Bits32 {
-    ghost m = { 32 };
+    const BYTES: usize = 4;
 
-    ghost w = { 4 };
+    const ROUNDS: u32 = 8;
 
-    ghost u = { 8 };
+    const ONES: u32 = 0xffff_ffff;
+
+    ghost BYTES = { 4 };
+
+    ghost ROUNDS = { 8 };
+
+    ghost ONES = { 0xffff_ffff };
 
     ghost table = { constants_256 };
 
-    ghost eight = { Prim.search rules };
+    ghost some = { lit≤ tt };
 
-    ghost wide = { Prim.search rules };
+    ghost most = { lit≤ tt };
 
-    ghost narrow = { Prim.search rules };
+    ghost few = { lit≤ tt };
 
-    ghost few = { Prim.search rules };
+    ghost ones = { refl };
 
-    ghost long = { Prim.search rules };
+    ghost long = { refl };
 
-    ghost small = { Prim.search rules };
+    ghost small = { small_256 };
 
+    fn constants() -> &'static [StepConstants; STEPS] {
+        &CONSTANTS_256
+    }
+
+    // The words of 24 bits can't be turned by this, so each width has a turn of its own.
     fn turn(x: u32, by: u32) -> u32 {
         x.rotate_left(by)
     }
+}
 
-    fn ones() -> u32 {
-        0xffff_ffff
-    }
-
-    fn rounds() -> u32 {
-        8
-    }
-
-    fn word_bytes() -> usize {
-        4
-    }
-
-    fn load_word(part: &[u8]) -> u32 {
-        u32::from_be_bytes([part[0], part[1], part[2], part[3]])
-    }
-
-    fn store_word(x: u32, part: &mut [u8]) {
-        part.copy_from_slice(&x.to_be_bytes());
-    }
-
-    fn constants_of(i: usize) -> StepConstants {
-        CONSTANTS_256[i]
-    }
+impl StateBytes<32> for Bits32 {
+    fn sized() {}
 }

@@ -1,15 +1,10 @@
-use Rattle.std.proofs.Common.{◌/◌, ◌^◌, ◌≤◌, arith, pow_mono}
+use Rattle.std.proofs.Common.{◌/◌, ◌^◌, arith}
 use lib.Bits.{and_mask}
+use Rattle.permutations.proofs.Widths.{byte_fits}
 use Rattle.permutations.proofs.simeck.round_word.Goals as goal
 
 pub overflow_sub-result : goal.overflow_sub-result
-overflow_sub-result g c =
-    let w = g.met.W.Width.wide in
-    let big : 2 ^ 8 ≤ 2 ^ g.W.Width.m = pow_mono w in
-    omega (arith, c.ones.ensures)
+overflow_sub-result g c = omega (arith, g.met.W.Width.ones, byte_fits g.W.Width.BYTES g.W.Width.some)
 
 pub returns : goal.returns
-returns g c =
-    let w = g.met.W.Width.wide in
-    let big : 2 ^ 8 ≤ 2 ^ g.W.Width.m = pow_mono w in
-    omega (arith, c.ones.ensures, and_mask (c.args.rc / 2 ^ c.args.k) 1)
+returns g c = omega (arith, g.met.W.Width.ones, byte_fits g.W.Width.BYTES g.W.Width.some, and_mask (c.args.rc / 2 ^ c.args.k) 1)

@@ -1,16 +1,16 @@
-use Rattle.std.proofs.Common.{refl, arith}
+use Rattle.std.proofs.Common.{◌*◌, refl}
 use Rattle.permutations.specs.Simeck.{box}
 use Rattle.permutations.specs.Boxes.{box_more}
 use Rattle.permutations.proofs.simeck.two_boxes.Goals as goal
 
 pub loop-k-init : goal.loop-k-init
 unfolding box
-loop-k-init g c = ((refl, c.requires.0), (refl, c.requires.1))
+loop-k-init g c = (refl, refl)
 
 pub loop-k-preserved : goal.loop-k-preserved
 loop-k-preserved g c =
-    let m = g.W.Width.m in
-    let k = c.loop-k.k in (
-      box_more m c.args.rc0 k _ c.args.a c.loop-k.x _ (omega (arith, g.met.W.Width.wide)) c.loop-k.invariant.0 c.round_word.ensures c.simeck_round-x.ensures,
-      box_more m c.args.rc1 k _ c.args.b c.loop-k.y _ (omega (arith, g.met.W.Width.wide)) c.loop-k.invariant.1 c.round_word-in-loop-k.ensures c.simeck_round-y.ensures,
+    let m = 8 * g.W.Width.BYTES in
+    let l = c.loop-k in (
+      box_more m c.args.rc0 l.k c.args.a l.x _ l.invariant.0 c.round-x.ensures,
+      box_more m c.args.rc1 l.k c.args.b l.y _ l.invariant.1 c.round-y.ensures,
     )

@@ -1,0 +1,29 @@
+use Rattle.std.proofs.Common.{◌≡◌, ℕ, ◌*◌, take, length, sym, ap, ◌∙◌, subst, mul_comm, zero-mul, arith, take_all}
+use Rattle.permutations.specs.Bytes.{stores}
+use Rattle.permutations.specs.Light.{words}
+use Rattle.permutations.specs.Words.{part_end, stores_more}
+use Rattle.permutations.proofs.steps.State.store.Goals as goal
+
+pub loop-i-init : goal.loop-i-init
+unfolding stores
+loop-i-init g c = ap (λ z. take z c.args.state.now) (zero-mul g.W.Width.BYTES)
+
+pub loop-i-preserved : goal.loop-i-preserved
+loop-i-preserved g c =
+    let w = g.W.Width.BYTES in
+    let i = c.loop-i.i in
+    let all = c.loop-i.bytes in
+    let size : length all ≡ w * 8 = c.loop-i.auto.bytes ∙ c.told-state ∙ c.sized.ensures in
+    stores_more w c.BYTES.result i _ c.words.result all c.store_word.new.part c.BYTES.ensures (omega (arith, ap length c.words.ensures))
+    (part_end i w 8 (length all) c.loop-i-test.true size)
+    c.loop-i.invariant c.store_word.ensures
+
+pub returns : goal.returns
+returns g c =
+    let w = g.W.Width.BYTES in
+    let all = c.loop-i.bytes in
+    let i_is : c.loop-i.i ≡ 8 = omega arith in
+    let size : length all ≡ w * 8 = c.loop-i.auto.bytes ∙ c.told-state ∙ c.sized.ensures in
+    let whole : take (8 * w) all ≡ all = take_all (8 * w) all (omega (arith, size, mul_comm 8 w)) in
+    let eight : take 8 c.words.result ≡ words c.args.self = ap (take 8) c.words.ensures in
+    sym whole ∙ subst (λ (n : ℕ). take (n * w) all ≡ stores w (take n c.words.result)) i_is c.loop-i.invariant ∙ ap (stores w) eight
