@@ -1,6 +1,6 @@
 -- The box and its inverse undo each other, at every width and number of rounds, and keep to the width. Assumes nothing.
 use Rattle.std.specs.Prelude.{◌≡◌, ℕ, zero, suc, ◌+◌, ◌-◌, ◌/◌, ◌%◌, ◌^◌, ◌<◌, ◌≤◌, refl}
-use Rattle.std.proofs.Common.{sym, ap, ◌∙◌, add-one, mod-lt, lt_of_le_of_lt, div-le_self, arith, pow_pos, pow_mono}
+use Rattle.std.proofs.Common.{sym, ap, subst, ◌∙◌, add-one, mod-lt, lt_of_le_of_lt, div-le_self, arith, pow_pos, pow_mono}
 use Rattle.std.proofs.lemmas.Nat.{or_lt, xor_lt, and_le_r}
 use Rattle.permutations.specs.Simeck.{SubblockWords, block, turned, mixed, gamma, round, unround, box, unbox, Fit}
 use Rattle.permutations.specs.Xors.{xor_round}
@@ -56,14 +56,25 @@ module _ (m : ℕ) (some : 1 ≤ m) (rc : ℕ) where
 -- ---- a turn of the code's loops
 
 -- one round more
-pub box_more : (m rc k : ℕ) (a x r : SubblockWords) → x ≡ box m rc k a → r ≡ round m (gamma m rc k) x → r ≡ box m rc (k + 1) a
+pub box_next : (m rc k : ℕ) (a x r : SubblockWords) → x ≡ box m rc k a → r ≡ round m (gamma m rc k) x → r ≡ box m rc (k + 1) a
 unfolding box
-box_more m rc k a x r x_is r_is = rw add-one (r_is ∙ ap (round m (gamma m rc k)) x_is)
+box_next m rc k a x r x_is r_is = rw add-one (r_is ∙ ap (round m (gamma m rc k)) x_is)
+
+-- the same, and it still fits
+pub box_more : (m rc k g : ℕ) (a x r : SubblockWords) → 1 ≤ m → (x ≡ box m rc k a) × Fit m x → g ≡ gamma m rc k → r ≡ round m g x → (r ≡ box m rc (k + 1) a) × Fit m r
+box_more m rc k g a x r some h g_is r_is =
+    (box_next m rc k a x r h.0 (r_is ∙ ap (λ z. round m z x) g_is), subst (Fit m) (sym r_is) (round_fit m g x (subst (λ z. z < 2 ^ m) (sym g_is) (gamma_lt m rc k some)) h.1))
 
 -- one round less is left
-pub unbox_more : (m rc u k : ℕ) (a x r : SubblockWords) → 0 < k → unbox m rc u a ≡ unbox m rc k x → r ≡ unround m (gamma m rc (k - 1)) x → unbox m rc u a ≡ unbox m rc (k - 1) r
+pub unbox_next : (m rc u k : ℕ) (a x r : SubblockWords) → 0 < k → unbox m rc u a ≡ unbox m rc k x → r ≡ unround m (gamma m rc (k - 1)) x → unbox m rc u a ≡ unbox m rc (k - 1) r
 unfolding unbox
-unbox_more m rc u zero a x r left x_is r_is = absurd (omega arith)
-unbox_more m rc u (suc k) a x r left x_is r_is =
+unbox_next m rc u zero a x r left x_is r_is = absurd (omega arith)
+unbox_next m rc u (suc k) a x r left x_is r_is =
     let e : suc k - 1 ≡ k = omega arith in
     x_is ∙ ap (unbox m rc k) (sym (r_is ∙ ap (λ n. unround m (gamma m rc n) x) e)) ∙ ap (λ n. unbox m rc n r) (sym e)
+
+-- the same, and it still fits
+pub unbox_more : (m rc u k g : ℕ) (a x r : SubblockWords) → 1 ≤ m → 0 < k → (unbox m rc u a ≡ unbox m rc k x) × Fit m x → g ≡ gamma m rc (k - 1) → r ≡ unround m g x
+    → (unbox m rc u a ≡ unbox m rc (k - 1) r) × Fit m r
+unbox_more m rc u k g a x r some left h g_is r_is =
+    (unbox_next m rc u k a x r left h.0 (r_is ∙ ap (λ z. unround m z x) g_is), subst (Fit m) (sym r_is) (unround_fit m g x (subst (λ z. z < 2 ^ m) (sym g_is) (gamma_lt m rc (k - 1) some)) h.1))

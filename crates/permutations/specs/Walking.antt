@@ -1,10 +1,10 @@
 -- A step and its inverse undo each other, and so do the steps of a table. Assumes nothing.
-use Rattle.std.specs.Prelude.{◌≡◌, ℕ, ◌+◌, ◌^◌, ◌<◌, ◌≤◌, Bool, true, false, cond, List, [], ◌∷◌, ◌++◌, length, take, Ok, Err, Result, nat_lt, slice_index_or, refl}
+use Rattle.std.specs.Prelude.{◌≡◌, ℕ, ◌+◌, ◌-◌, ◌^◌, ◌<◌, ◌≤◌, Bool, true, false, cond, List, [], ◌∷◌, ◌++◌, length, take, drop, Ok, Err, Result, nat_lt, slice_index_or, refl}
 use Rattle.std.proofs.Common.{ap, ◌∙◌, arith, pow_mono}
 use Rattle.permutations.specs.declared.permutation.NoSuchStep.{NoSuchStep}
 use Rattle.permutations.specs.Constants.{row}
 use Rattle.permutations.specs.Light.{row_at}
-use Rattle.std.proofs.lemmas.List.{take_more}
+use Rattle.std.proofs.lemmas.List.{take_more, drop_more}
 use Rattle.std.proofs.lemmas.Bool.{ltb-true}
 use Rattle.std.proofs.lemmas.Nat.{xor_lt}
 use Rattle.std.specs.List.{AllByRecursion}
@@ -102,6 +102,12 @@ unsteps_push m u (j ∷ ks) k s = ap (unstep m u j) (unsteps_push m u ks k s)
 
 pub steps_more : (m u : ℕ) (ks : List StepConstants) (i : ℕ) (d : StepConstants) (s : StateWords) → i < length ks → steps m u (take (i + 1) ks) s ≡ step m u (slice_index_or ks i d) (steps m u (take i ks) s)
 steps_more m u ks i d s h = ap (λ z. steps m u z s) (take_more ks i d h) ∙ steps_push m u (take i ks) (slice_index_or ks i d) s
+
+pub unsteps_more : (m u : ℕ) (ks : List StepConstants) (i : ℕ) (d : StepConstants) (s : StateWords) → 0 < i → i ≤ length ks → unsteps m u (drop (i - 1) ks) s ≡ unstep m u (slice_index_or ks (i - 1) d) (unsteps m u (drop i ks) s)
+unfolding unsteps
+unsteps_more m u ks i d s h l =
+    let e : i - 1 + 1 ≡ i = omega arith in
+    ap (λ z. unsteps m u z s) (drop_more ks (i - 1) d (omega arith) ∙ ap (λ n. slice_index_or ks (i - 1) d ∷ drop n ks) e)
 
 -- ---- the row of a step
 

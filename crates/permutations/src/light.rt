@@ -37,10 +37,12 @@ impl<const B: usize, W: StateBytes<B>> Permutation<B> for Light<W> {
         W::sized();
     }
 
+    #[tactic(auto, unfolding(crate::specs::Light::forward))]
     fn forward(state: &mut [u8; B]) {
         State::<W>::load(state).forward().store(state);
     }
 
+    #[tactic(auto, unfolding(crate::specs::Light::backward))]
     fn back(state: &mut [u8; B]) {
         State::<W>::load(state).back().store(state);
     }
@@ -57,12 +59,14 @@ impl<const B: usize, W: StateBytes<B>> Stepped<B> for Light<W> {
         STEPS
     }
 
+    #[tactic(auto, using(crate::specs::Walking::row_found), unfolding(crate::specs::Light::forward_step))]
     fn step(state: &mut [u8; B], i: usize) -> Result<(), NoSuchStep> {
         let constants = constants_at::<W>(i)?;
         State::<W>::load(state).step(constants).store(state);
         Ok(())
     }
 
+    #[tactic(auto, using(crate::specs::Walking::row_found), unfolding(crate::specs::Light::backward_step))]
     fn unstep(state: &mut [u8; B], i: usize) -> Result<(), NoSuchStep> {
         let constants = constants_at::<W>(i)?;
         State::<W>::load(state).unstep(constants).store(state);
