@@ -53,6 +53,7 @@ impl Stepped<32> for Bench {
         1
     }
 
+    // A guard here and in unstep: there is no table to look a step up in.
     fn step(state: &mut [u8; 32], i: usize) -> Result<(), NoSuchStep> {
         if i >= 1 {
             return Err(NoSuchStep);

@@ -55,6 +55,7 @@ fn word_at<const B: usize, W: StateBytes<B>>(state: &[u8; B], i: usize) -> u32
 }
 
 // What round k xors in: all ones but for the lowest bit, which is bit k of the round constant.
+// That k is below 8 stays a clause, here and in a round: a type for it would be longer.
 fn round_word<W: Width>(rc: u8, k: u32) -> u32
     requires { k < 8 }
     ensures { result ≡ gamma (8 * W.BYTES) rc k }
