@@ -34,6 +34,14 @@ pad_made zero n x h k = absurd (omega arith)
 pad_made (suc m) n [] h k = ap (λ z. 128 ∷ z) (sym (take_zeros m n (omega arith)))
 pad_made (suc m) n (a ∷ x) h k = ap (λ z. a ∷ z) (pad_made m n x (omega arith) (omega arith))
 
+-- ---- as many places as a block has bytes
+
+pub xors_front : (x ps s : List ℕ) → xors x (pick (take (length x) ps) s) ≡ xors x (pick ps s)
+unfolding xors
+xors_front [] ps s = refl
+xors_front (a ∷ x) [] s = refl
+xors_front (a ∷ x) (p ∷ ps) s = ap (λ t. bit_xor a (get_or s p 0) ∷ t) (xors_front x ps s)
+
 -- ---- the places
 
 module _ (p : Perm) (q : Plan) (laws : Sound p q) where

@@ -1,4 +1,4 @@
-ghost use Rattle.std.specs.Prelude.{◌≡◌, ◌<◌, ◌≤◌, ◌++◌, length, take, drop, if◌then◌else◌, bit_xor, slice_index, slice_set};
+ghost use Rattle.std.specs.Prelude.{◌≡◌, ℕ, ◌<◌, ◌≤◌, ◌++◌, length, take, drop, if◌then◌else◌, bit_xor, slice_index, slice_set};
 ghost use Rattle.std.specs.Str.{bytes_eq};
 ghost use Rattle.permutations.specs.Bytes.{xors};
 ghost use Rattle.spoc.specs.Feed.{padded, put, zero_mask, mask_with, masks, control_place, run, pick};
@@ -102,12 +102,11 @@ impl<const B: usize, S: Suite<B>> Duplex<B, S> {
         requires { length block.now ≤ S.SuiteModel.plan.rate }
         ensures { self.new.state ≡ xors self.old.state (put S.SuiteModel.plan.masked_places (padded S.SuiteModel.plan.rate block.now) (zero_mask S.Bijection.meaning)) }
     {
-        let bytes = if block.len() < S::RATE {
-            padded_block(block)
+        if block.len() < S::RATE {
+            self.mask_in(&padded_block(block)[..S::RATE]);
         } else {
-            full_block(block, S::RATE)
-        };
-        self.mask_in(&bytes[..S::RATE]);
+            self.mask_in(&full_block(block, S::RATE)[..S::RATE]);
+        }
     }
 
     // A byte xored into the first rate place.
@@ -165,14 +164,29 @@ impl<const B: usize, S: Suite<B>> Duplex<B, S> {
         duplex
     }
 
-    // A block xored with the rate places.
+    // A block xored with as many places.
+    fn xor_places(&self, places: &[usize], block: &[u8], out: &mut [u8])
+        requires inside { (i : ℕ) → i < length places.now → slice_index places.now i < B }
+        requires all { length places.now ≡ length block.now }
+        requires room { length out.old ≡ length block.now }
+        ensures { out.new ≡ xors block.now (pick places.now self.now.state) }
+    {
+        for (i, place) in places.iter().enumerate() {
+            out[i] = block[i] ^ self.state[*place];
+        }
+    }
+
+    // A block xored with the rate places; of a full one the compiler knows the length.
     fn xor_rate(&self, block: &[u8], out: &mut [u8])
         requires fits { length block.now ≤ S.SuiteModel.plan.rate }
         requires room { length out.old ≡ length block.now }
         ensures { out.new ≡ xors block.now (pick S.SuiteModel.plan.rate_places self.now.state) }
     {
-        for (i, byte) in out.iter_mut().enumerate() {
-            *byte = block[i] ^ self.state[S::rate_places()[i]];
+        let places = S::rate_places();
+        if block.len() == places.len() {
+            self.xor_places(places, block, out);
+        } else {
+            self.xor_places(&places[..block.len()], block, out);
         }
     }
 

@@ -1,8 +1,25 @@
-use Rattle.std.proofs.Common.{arith}
-use Rattle.spoc.specs.Rows.{xors_pick}
+use Rattle.std.proofs.Common.{◌≡◌, ℕ, ◌<◌, length, get_or, take, ap, ◌∙◌, arith, length-take, rules}
+use Rattle.std.proofs.lemmas.List.{get_or-take}
+use Rattle.permutations.specs.Bytes.{xors}
+use Rattle.spoc.specs.Feed.{pick}
+use Rattle.spoc.proofs.Masks.{rate_inside, xors_front}
 use Rattle.spoc.proofs.mode.Duplex.xor_rate.Goals as goal
 
-pub returns : goal.returns
-returns g c =
-    xors_pick c.loop-i.out c.args.block.now g.S.SuiteModel.plan.rate_places c.args.self.now.state (omega arith)
-    (omega (arith, g.met.S.SuiteModel.sound.rate_count)) (λ k h. c.loop-i.invariant k (omega arith))
+pub xor_places-requires-else-block-places : goal.xor_places-requires-else-block-places
+xor_places-requires-else-block-places g c =
+    let ps = c.rate_places-places.result.now in
+    let n = length c.args.block.now in
+    let inside : (i : ℕ) → i < length (take n ps) → get_or (take n ps) i 0 < g.row.B =
+    λ i h.
+    let front : i < n = omega (arith, length-take n ps) in
+    let at : get_or (take n ps) i 0 ≡ get_or g.S.SuiteModel.plan.rate_places i 0 = get_or-take n ps i 0 front ∙ ap (λ l. get_or l i 0) c.rate_places-places.ensures in
+    omega (arith, at, rate_inside g.S.Bijection.meaning g.S.SuiteModel.plan g.met.S.SuiteModel.sound i (omega (arith, c.requires.fits)), g.met.S.Suite.wide) in
+    search rules
+
+pub returns-else-block-places : goal.returns-else-block-places
+returns-else-block-places g c =
+    let x = c.args.block.now in
+    let s = c.args.self.now.state in
+    c.xor_places-else-block-places.ensures
+    ∙ xors_front x c.rate_places-places.result.now s
+    ∙ ap (λ ps. xors x (pick ps s)) c.rate_places-places.ensures
