@@ -126,7 +126,8 @@ impl<const B: usize, S: Suite<B>> Duplex<B, S> {
         self.control_in(control);
     }
 
-    // A block's mask goes in, and forward follows.
+    // A block's mask goes in, and forward follows. Inlined, so that the compiler knows of each block whether it is full.
+    #[inline(always)]
     fn step(&mut self, block: &[u8], control: u8)
         requires { length block.now ≤ S.SuiteModel.plan.rate }
         ensures { self.new.state ≡ S.Bijection.meaning.forward (xors self.old.state (mask_with S.Bijection.meaning S.SuiteModel.plan control block.now)) }
@@ -191,6 +192,7 @@ impl<const B: usize, S: Suite<B>> Duplex<B, S> {
     }
 
     // A block is turned into what comes out for it, and the mask of the message's block goes in.
+    #[inline(always)]
     fn crypt_block(&mut self, way: Way, block: &[u8], out: &mut [u8], control: u8)
         requires fits { length block.now ≤ S.SuiteModel.plan.rate }
         requires room { length out.old ≡ length block.now }
