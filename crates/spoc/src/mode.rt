@@ -97,7 +97,9 @@ impl<const B: usize, S: Suite<B>> Duplex<B, S> {
         }
     }
 
-    // A block, padded if it is short, xored into the masked places.
+    // A block, padded if it is short, xored into the masked places. All that a block goes through is inlined: the compiler
+    // then knows in each loop whether the block is full, and which way it goes.
+    #[inline(always)]
     fn mask_block(&mut self, block: &[u8])
         requires { length block.now ≤ S.SuiteModel.plan.rate }
         ensures { self.new.state ≡ xors self.old.state (put S.SuiteModel.plan.masked_places (padded S.SuiteModel.plan.rate block.now) (zero_mask S.Bijection.meaning)) }
@@ -118,6 +120,7 @@ impl<const B: usize, S: Suite<B>> Duplex<B, S> {
     }
 
     // A block's mask xored into the state.
+    #[inline(always)]
     fn absorb(&mut self, block: &[u8], control: u8)
         requires { length block.now ≤ S.SuiteModel.plan.rate }
         ensures { self.new.state ≡ xors self.old.state (mask_with S.Bijection.meaning S.SuiteModel.plan control block.now) }
@@ -126,7 +129,7 @@ impl<const B: usize, S: Suite<B>> Duplex<B, S> {
         self.control_in(control);
     }
 
-    // A block's mask goes in, and forward follows. Inlined, so that the compiler knows of each block whether it is full.
+    // A block's mask goes in, and forward follows.
     #[inline(always)]
     fn step(&mut self, block: &[u8], control: u8)
         requires { length block.now ≤ S.SuiteModel.plan.rate }
@@ -207,6 +210,7 @@ impl<const B: usize, S: Suite<B>> Duplex<B, S> {
     }
 
     // Each block of a message or a ciphertext goes that way, and what comes out for it to the front of `out`.
+    #[inline(always)]
     pub(crate) fn crypt(&mut self, way: Way, input: &[u8], out: &mut [u8])
         requires { length input.now ≤ length out.old }
         ensures state { self.new.state ≡ run S.Bijection.meaning self.old.state (masks_of way S.Bijection.meaning S.SuiteModel.plan self.old.state input.now) }
