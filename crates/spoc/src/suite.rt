@@ -20,7 +20,8 @@ pub trait Suite<const B: usize>: Permutation<B> + SuiteModel {
 
     ghost RATE: { ℕ };
 
-    // Where the state is xored into a block; the first place takes the control byte.
+    // Where the state is xored into a block; the first place takes the control byte. No constant: a ghost value of a reference
+    // can't be written in an impl.
     fn rate_places() -> &'static [usize]
         ensures { result.now ≡ Self.SuiteModel.plan.rate_places };
 
