@@ -180,7 +180,18 @@ impl<const B: usize, S: Suite<B>> Duplex<B, S> {
         }
     }
 
+    // A short block xored with the rate places: only the last can be, so it is kept out of the loop's code.
+    #[inline(never)]
+    fn xor_short(&self, block: &[u8], out: &mut [u8])
+        requires fits { length block.now ≤ S.SuiteModel.plan.rate }
+        requires room { length out.old ≡ length block.now }
+        ensures { out.new ≡ xors block.now (pick S.SuiteModel.plan.rate_places self.now.state) }
+    {
+        self.xor_places(&S::rate_places()[..block.len()], block, out);
+    }
+
     // A block xored with the rate places; of a full one the compiler knows the length.
+    #[inline(always)]
     fn xor_rate(&self, block: &[u8], out: &mut [u8])
         requires fits { length block.now ≤ S.SuiteModel.plan.rate }
         requires room { length out.old ≡ length block.now }
@@ -190,7 +201,7 @@ impl<const B: usize, S: Suite<B>> Duplex<B, S> {
         if block.len() == places.len() {
             self.xor_places(places, block, out);
         } else {
-            self.xor_places(&places[..block.len()], block, out);
+            self.xor_short(block, out);
         }
     }
 
