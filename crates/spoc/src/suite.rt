@@ -39,18 +39,4 @@ pub trait Suite<const B: usize>: Permutation<B> + SuiteModel {
 
     // A state is as long as the permutation means.
     ghost wide: { B ≡ Self.Bijection.meaning.size };
-
-    // The version, as generic code asks for it.
-    final fn version_number() -> u16
-        ensures { result ≡ Self.SuiteModel.plan.version }
-    {
-        Self::VERSION
-    }
-
-    // The rate in bytes, as generic code asks for it.
-    final fn rate_bytes() -> usize
-        ensures { result ≡ Self.SuiteModel.plan.rate }
-    {
-        Self::RATE
-    }
 }
