@@ -38,14 +38,6 @@ module _ (p : Perm) (q : Plan) where
   feed_is [] (y ∷ m) = rw (some y m) refl
   feed_is (x ∷ d) (y ∷ m) = rw (some x d, some y m) (ended_append q (zero_mask p ∷ masks p q 32 (x ∷ d)) _ _)
 
-  -- the states of seal, one after the other
-  pub walked : (s0 s1 s2 s d m : List ℕ) (e1 e2 : Bool) → s0 ≡ s → e1 ≡ (eqb (length d) 0 && eqb (length m) 0) → e2 ≡ eqb (length m) 0
-      → s1 ≡ p.forward (xors s0 (first_mask p q e1)) → s2 ≡ run p s1 (ended_if e2 q (masks p q 32 d)) → s2 ≡ at_message p q s d m
-  walked s0 s1 s2 s d m e1 e2 is0 is1 is2 one two =
-      two
-      ∙ ap (λ z. run p s1 (ended_if z q (masks p q 32 d))) is2
-      ∙ ap (λ z. run p z (ended_if (eqb (length m) 0) q (masks p q 32 d))) (one ∙ ap (λ z. p.forward (xors s0 (first_mask p q z))) is1 ∙ ap (λ z. p.forward (xors z (first_mask p q (eqb (length d) 0 && eqb (length m) 0)))) is0)
-
   pub end_is : (s d m : List ℕ) → run p (at_message p q s d m) (ended q (masks p q 64 m)) ≡ end_state p q s d m
   end_is s d m =
       sym (run_append p (ended_if (eqb (length m) 0) q (masks p q 32 d)) (ended q (masks p q 64 m)) _)

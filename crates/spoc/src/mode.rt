@@ -168,7 +168,7 @@ impl<const B: usize, S: Suite<B>> Duplex<B, S> {
         duplex
     }
 
-    // A block xored with as many places.
+    // A block xored with as many places. Written by index: what goes through an iter_mut in a zip is lost to a proof.
     fn xor_places(&self, places: &[usize], block: &[u8], out: &mut [u8])
         requires inside { (i : ℕ) → i < length places.now → slice_index places.now i < B }
         requires all { length places.now ≡ length block.now }
@@ -235,7 +235,7 @@ impl<const B: usize, S: Suite<B>> Duplex<B, S> {
         }
     }
 
-    // The masked places of the end state.
+    // The masked places of the end state, written by index as in xor_places.
     pub(crate) fn write_tag(&self, tag: &mut [u8])
         requires { length tag.old ≡ S.SuiteModel.plan.rate }
         ensures { tag.new ≡ pick S.SuiteModel.plan.masked_places self.now.state }

@@ -1,4 +1,4 @@
-use Rattle.std.proofs.Common.{◌≡◌, ◌++◌, take, drop, replicate, ap, ◌∙◌, arith, take_all, take_at}
+use Rattle.std.proofs.Common.{◌++◌, take, drop, replicate, ap, ◌∙◌, arith, take_all, take_at}
 use Rattle.spoc.proofs.mode.full_block.Goals as goal
 
 pub returns : goal.returns

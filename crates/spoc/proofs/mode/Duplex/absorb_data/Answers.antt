@@ -1,4 +1,4 @@
-use Rattle.std.proofs.Common.{◌+◌, length, drop, sym, ◌∙◌, arith, length-drop}
+use Rattle.std.proofs.Common.{◌+◌, drop, sym, ◌∙◌, arith, length-drop}
 use Rattle.spoc.proofs.Blocks.{turn_at, run_none}
 use Rattle.spoc.proofs.mode.Duplex.absorb_data.Goals as goal
 

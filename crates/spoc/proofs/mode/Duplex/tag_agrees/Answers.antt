@@ -1,7 +1,7 @@
 use Rattle.std.proofs.Common.{length, arith, rules}
 use Rattle.std.proofs.lemmas.Slice.Zip.{zip_turn, zip_end}
 use Rattle.std.proofs.lemmas.List.{length_push}
-use Rattle.spoc.proofs.Compare.{seen_none, seen_more, seen_all}
+use Rattle.spoc.proofs.Compare.{seen_more, seen_all}
 use Rattle.spoc.proofs.Masks.{masked_turn}
 use Rattle.spoc.proofs.mode.Duplex.tag_agrees.Goals as goal
 
