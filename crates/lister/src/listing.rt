@@ -92,7 +92,7 @@ fn list_under<const B: usize, S: Suite<B>>(
     let mut scratch = [0; MOST_BODY];
     let mut card = Card::empty();
     check::<B, S>(key, bytes, &mut scratch, &mut card)?;
-    let text = card_line(heap, number, S::version_number(), card.count())?;
+    let text = card_line(heap, number, S::VERSION, card.count())?;
     list_sheets::<B, S>(heap, &card, text)
 }
 

@@ -178,7 +178,7 @@ pub(crate) fn read<'a, const B: usize, S: Suite<B>>(
     ensures said { said result ≡ tried (spoc_of S.Bijection.meaning S.SuiteModel.plan) key.now header.now n p rest.now }
     ensures kept { drop 4096 scratch.new ≡ drop 4096 scratch.old }
 {
-    let part = parse(rest, S::rate_bytes(), n, p)?;
+    let part = parse(rest, S::RATE, n, p)?;
     let head = front::<HEAD_BYTES>(rest);
     match part {
         Record::Sheet { body, tag, .. } => {

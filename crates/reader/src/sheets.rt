@@ -56,7 +56,7 @@ fn open_sheet<const B: usize, S: Suite<B>>(
     let fields = fields_of(rest);
     let end = HEAD_BYTES + fields.length;
     let head = front::<HEAD_BYTES>(rest);
-    let tag = &rest[end..end + S::rate_bytes()];
+    let tag = &rest[end..end + S::RATE];
     open_at::<B, S>(
         key,
         header,
@@ -81,7 +81,7 @@ pub fn sheet<const B: usize, S: Suite<B>>(
     ensures buffer { buffer.new ≡ sheet_buffer (spoc_of S.Bijection.meaning S.SuiteModel.plan) (shown card.now) i buffer.old }
     ensures agrees { (key : List ℕ) (scratch : ℕ) (bytes : List ℕ) → check_of (spoc_of S.Bijection.meaning S.SuiteModel.plan) key scratch bytes ≡ Ok (shown card.now) → NoMismatch (told result) }
 {
-    if card.version != S::version_number() || card.rate != S::rate_bytes() {
+    if card.version != S::VERSION || card.rate != S::RATE {
         return Err(CardFault::Own {
             no: CardNo::Version,
             record: i,

@@ -30,13 +30,13 @@ fn walk_records<const B: usize, S: Suite<B>>(
     loop {
         match read::<B, S>(key, header, rest, n, place, scratch)? {
             Record::Sheet { body, .. } => {
-                let size = HEAD_BYTES + body.len() + S::rate_bytes();
+                let size = HEAD_BYTES + body.len() + S::RATE;
                 rest = &rest[size..];
                 place += size;
                 n += 1;
             }
             Record::End { .. } => {
-                let size = HEAD_BYTES + S::rate_bytes();
+                let size = HEAD_BYTES + S::RATE;
                 if rest.len() > size {
                     return Err(CardFault::Own {
                         no: CardNo::Left,
@@ -74,7 +74,7 @@ fn walk_card<const B: usize, S: Suite<B>>(
             place: 0,
         });
     }
-    if u16::from_be_bytes([header[3], header[4]]) != S::version_number() {
+    if u16::from_be_bytes([header[3], header[4]]) != S::VERSION {
         return Err(CardFault::Own {
             no: CardNo::Version,
             record: 0,
@@ -161,8 +161,8 @@ pub fn check<'a, const B: usize, S: Suite<B>>(
     *card = Card {
         bytes,
         key,
-        version: S::version_number(),
-        rate: S::rate_bytes(),
+        version: S::VERSION,
+        rate: S::RATE,
         count,
     };
     Ok(())

@@ -50,7 +50,7 @@ fn open_bodies<const B: usize, S: Suite<B>>(bytes: &[u8], out: &mut [u8]) -> boo
     let Some((header, records)) = bytes.split_first_chunk::<HEADER_BYTES>() else {
         return false;
     };
-    let size = HEAD_BYTES + MOST_BODY + S::rate_bytes();
+    let size = HEAD_BYTES + MOST_BODY + S::RATE;
     let mut all = true;
     for (n, record) in records.chunks(size).take(MOST_SHEETS).enumerate() {
         all &= open_record::<B, S>(header, n, record, out);
@@ -104,7 +104,7 @@ fn least_times<const B: usize, S: Suite<B>>(
 
 // Times a full card.
 fn time<const B: usize, S: Suite<B> + Drop>(rt: &HostRuntime, name: &str) -> anyhow::Result<()> {
-    let rate = S::rate_bytes();
+    let rate = S::RATE;
     let length = HEADER_BYTES + MOST_SHEETS * (HEAD_BYTES + MOST_BODY + rate) + HEAD_BYTES + rate;
     let mut medium = vec![in rt.alloc(); 0; length]?;
     write_full::<B, S>(medium.as_mut_slice())?;

@@ -61,7 +61,7 @@ fn run<const B: usize, S: Suite<B>>(
     calls: u32,
 ) -> anyhow::Result<Times> {
     let mut room = [0; 16];
-    let tag = room.get_mut(0..S::rate_bytes()).context("a rate above 16")?;
+    let tag = room.get_mut(0..S::RATE).context("a rate above 16")?;
     let start = Instant::now(rt)?;
     unless_refused(seal_again::<B, S>(message, ciphertext, tag, calls))?;
     let sealing = each(start.elapsed(rt)?, calls);
@@ -94,7 +94,7 @@ fn time_length<const B: usize, S: Suite<B>>(
     let bytes = length as u128;
     let seals = bytes * 1000 / least.seal.max(1);
     let opens = bytes * 1000 / least.open.max(1);
-    let forwards = bytes / (S::rate_bytes() as u128).max(1) + 1;
+    let forwards = bytes / (S::RATE as u128).max(1) + 1;
     let share = forwards.saturating_mul(forward).saturating_mul(100) / least.seal.max(1);
     println!(rt;
         "{name} {length} bytes: seal {seals} MB/s, open {opens} MB/s, forward {share} % of seal"

@@ -1,11 +1,11 @@
 -- Cutting into blocks, and the rows of masks that they give. Assumes nothing.
-use Rattle.std.proofs.Common.{◌≡◌, ℕ, zero, suc, ◌+◌, ◌-◌, ◌<◌, ◌≤◌, min, Bool, true, false, ◌&&◌, eqb, List, [], ◌∷◌, ◌++◌, map, length, take, drop, set, sym, refl, ap, ◌∙◌, ⊎_elim, append_assoc, append-nil, arith}
+use Rattle.std.proofs.Common.{◌≡◌, ℕ, zero, suc, ◌+◌, ◌-◌, ◌<◌, ◌≤◌, min, Bool, true, false, ◌&&◌, eqb, List, [], ◌∷◌, ◌++◌, map, length, take, drop, set, sym, refl, ap, ◌∙◌, ap₂, ⊎_elim, append_assoc, append-nil, arith}
 use borrow.Rule.Slice.PartMut.{put_mid}
 use lib.Bits.{bit_xor}
 use Rattle.std.specs.List.{flat_map, AllByRecursion}
-use Rattle.std.proofs.lemmas.List.{take-append-drop, length-append, length-take, length-drop, take_at, drop_at, take_all, drop_all, nil_from_length, set-set, get_or-set_same, length-replicate}
+use Rattle.std.proofs.lemmas.List.{take-append-drop, length-append, length-take, length-drop, take_at, drop_at, take_all, drop_all, drop-drop, nil_from_length, set-set, get_or-set_same, length-replicate}
 use Rattle.std.proofs.lemmas.Slice.{take-put_mid}
-use Rattle.std.proofs.lemmas.Bool.{cases_lt, ne_eqb}
+use Rattle.std.proofs.lemmas.Bool.{cases_lt, ne_eqb, eq-eqb}
 use Rattle.permutations.specs.Bytes.{xors}
 use Rattle.permutations.specs.Permutation.{Perm}
 use Rattle.spoc.specs.Feed.{cut, blocks, put, zero_mask, padded, control, mask_with, mask, masks, control_place, flagged, ended, run, ciphers, pick}
@@ -64,6 +64,42 @@ cut_fits r zero s = tt
 cut_fits r (suc n) [] = tt
 cut_fits r (suc n) (x ∷ s) = (omega (arith, length-take r (x ∷ s)), cut_fits r n (drop r (x ∷ s)))
 
+-- ---- a block off the front
+
+-- the first block of `rest` is x, and t is left
+pub record First (r : ℕ) (rest x t : List ℕ) : Type 0 where
+  pub is : rest ≡ x ++ t
+  pub wide : length x ≡ min r (length rest)
+  pub some : 0 < length rest
+
+-- the block of s from `at` to `end`
+module _ (r : ℕ) (s : List ℕ) (at end : ℕ) (low : 1 ≤ r) (inside : at < length s) (is : end ≡ min (length s) (at + r)) where
+  pub block_end : end ≡ at + length (take (end - at) (drop at s))
+  block_end = omega (arith, length-take (end - at) (drop at s), length-drop at s)
+
+  rest_is : drop (end - at) (drop at s) ≡ drop (at + r) s
+  rest_is =
+      ⊎_elim
+      (λ h. drop_all (end - at) (drop at s) (omega (arith, length-drop at s)) ∙ sym (drop_all (at + r) s (omega arith)))
+      (λ h. drop-drop (end - at) at s ∙ ap (λ n. drop n s) (omega arith))
+      (cases_lt (length s) (at + r))
+
+  pub first_at : First r (drop at s) (take (end - at) (drop at s)) (drop (at + r) s)
+  first_at =
+      record {
+        is = sym (take-append-drop (end - at) (drop at s)) ∙ ap (λ t. take (end - at) (drop at s) ++ t) rest_is;
+        wide = omega (arith, length-take (end - at) (drop at s), length-drop at s);
+        some = omega (arith, length-drop at s);
+      }
+
+  -- it is the last exactly when nothing is left
+  pub last_at : eqb end (length s) ≡ eqb (length (drop (at + r) s)) 0
+  last_at =
+      ⊎_elim
+      (λ h. ne_eqb end (length s) (λ e. omega arith) ∙ sym (ne_eqb (length (drop (at + r) s)) 0 (λ e. omega (arith, length-drop (at + r) s))))
+      (λ h. eq-eqb end (length s) (omega arith) ∙ sym (eq-eqb (length (drop (at + r) s)) 0 (omega (arith, length-drop (at + r) s))))
+      (cases_lt (at + r) (length s))
+
 -- ---- a turn of a loop over the blocks
 
 module _ (p : Perm) (q : Plan) (laws : Sound p q) where
@@ -80,32 +116,33 @@ module _ (p : Perm) (q : Plan) (laws : Sound p q) where
       ap (λ t. mask_with p q (control_byte q.rate c x t) x ∷ ended q (masks p q c (a ∷ y))) (sym (ne_eqb (suc (length y)) 0 (λ e. omega arith)))
   ended_first false c x y = refl
 
-  -- the loop's numbers: the rate and the chunks' size are the plan's, and `left` bytes are to come
-  module _ (c : ℕ) (e : Bool) (x t rest : List ℕ) (rate size left cb : ℕ)
-      (er : rate ≡ q.rate) (es : size ≡ rate) (el : left ≡ length rest)
-      (is : rest ≡ x ++ t) (wide : length x ≡ min size (length rest)) (some : 0 < length rest)
-      (ec : cb ≡ control_byte rate c x (e && eqb (left - length x) 0)) where
-    pub turn_left : left - length x ≡ length t
-    turn_left = omega (arith, ap length is, length-append x t)
-
+  -- the first block of `rest` is x, whose control byte is cb
+  module _ (c : ℕ) (e : Bool) (rest x t : List ℕ) (cb : ℕ) (k : First q.rate rest x t) (ec : cb ≡ control_byte q.rate c x (e && eqb (length t) 0)) where
     pub turn_fits : length x ≤ q.rate
-    turn_fits = omega arith
-
-    pub turn_control : cb ≡ control_byte q.rate c x (e && eqb (length t) 0)
-    turn_control = ec ∙ ap (λ n. control_byte n c x (e && eqb (left - length x) 0)) er ∙ ap (λ n. control_byte q.rate c x (e && eqb n 0)) turn_left
+    turn_fits = omega (arith, k.wide)
 
     pub turn_blocks : blocks q.rate rest ≡ x ∷ blocks q.rate t
-    turn_blocks =
-        ap (blocks q.rate) is
-        ∙ blocks_more q.rate x t laws.rate_low (rw is at some) (rw is at (wide ∙ ap (λ n. min n (length rest)) (es ∙ er)))
+    turn_blocks = ap (blocks q.rate) k.is ∙ blocks_more q.rate x t laws.rate_low (rw k.is at k.some) (rw k.is at k.wide)
 
     -- the state s becomes s', and the same end is ahead
     pub turn : (s s' end : List ℕ) → s' ≡ p.forward (xors s (mask_with p q cb x)) → run p s (ended_if e q (masks p q c rest)) ≡ end
         → run p s' (ended_if e q (masks p q c t)) ≡ end
     turn s s' end e' inv =
-        ap (λ z. run p z (ended_if e q (masks p q c t))) (e' ∙ ap (λ n. p.forward (xors s (mask_with p q n x))) turn_control)
+        ap (λ z. run p z (ended_if e q (masks p q c t))) (e' ∙ ap (λ n. p.forward (xors s (mask_with p q n x))) ec)
         ∙ sym (ap (λ bs. run p s (ended_if e q (map (mask p q c) bs))) turn_blocks ∙ ap (run p s) (ended_first e c x t))
         ∙ inv
+
+  -- a turn of a loop over data, from `at` to `end`; r, r1 and r2 are the rate
+  pub turn_at : (c : ℕ) (e : Bool) (ds : List ℕ) (at end cb r r1 r2 : ℕ) → r ≡ q.rate → r1 ≡ q.rate → r2 ≡ q.rate → at < length ds → end ≡ min (length ds) (at + r1)
+      → cb ≡ control_byte r2 c (take (end - at) (drop at ds)) (e && eqb end (length ds))
+      → (s s' to : List ℕ) → s' ≡ p.forward (xors s (mask_with p q cb (take (end - at) (drop at ds)))) → run p s (ended_if e q (masks p q c (drop at ds))) ≡ to
+      → run p s' (ended_if e q (masks p q c (drop (at + r) ds))) ≡ to
+  turn_at c e ds at end cb r r1 r2 er er1 er2 inside is ec s s' to e' inv =
+      let x : List ℕ = take (end - at) (drop at ds) in
+      let is' : end ≡ min (length ds) (at + q.rate) = is ∙ ap (λ n. min (length ds) (at + n)) er1 in
+      let ec' = ec ∙ ap₂ (λ n b. control_byte n c x (e && b)) er2 (last_at q.rate ds at end laws.rate_low inside is') in
+      ap (λ n. run p s' (ended_if e q (masks p q c (drop (at + n) ds)))) er
+      ∙ turn c e (drop at ds) x (drop (at + q.rate) ds) cb (first_at q.rate ds at end laws.rate_low inside is') ec' s s' to e' inv
 
   pub run_none : (s : List ℕ) (e : Bool) (c : ℕ) (rest : List ℕ) → length rest ≡ 0 → run p s (ended_if e q (masks p q c rest)) ≡ s
   run_none s true c [] h = refl
@@ -113,37 +150,31 @@ module _ (p : Perm) (q : Plan) (laws : Sound p q) where
   run_none s true c (a ∷ rest) h = absurd (omega arith)
   run_none s false c (a ∷ rest) h = absurd (omega arith)
 
-  -- a turn of the loop over a message: `at` bytes of out are written, and the next are x's ciphertext
-  module _ (x t rest : List ℕ) (rate size left cb : ℕ)
-      (er : rate ≡ q.rate) (es : size ≡ rate) (el : left ≡ length rest)
-      (is : rest ≡ x ++ t) (wide : length x ≡ min size (length rest)) (some : 0 < length rest)
-      (ec : cb ≡ control_byte rate 64 x (eqb (left - length x) 0)) where
-    pub cipher_turn : (s s' end out part : List ℕ) (at : ℕ) → s' ≡ p.forward (xors s (mask_with p q cb x))
+  -- a turn of the loop over a message: `at` bytes of out are written, and the next, up to `to`, are x's ciphertext
+  module _ (rest x t : List ℕ) (cb : ℕ) (k : First q.rate rest x t) (ec : cb ≡ control_byte q.rate 64 x (eqb (length t) 0)) where
+    pub cipher_turn : (s s' end out part : List ℕ) (at to : ℕ) → to ≡ at + length x → s' ≡ p.forward (xors s (mask_with p q cb x))
         → part ≡ xors x (pick q.rate_places s) → at ≤ length out
         → take at out ++ ciphers p q s (blocks q.rate rest) (ended q (masks p q 64 rest)) ≡ end
-        → take (at + length x) (put_mid at ((at + length x) - at) out part) ++ ciphers p q s' (blocks q.rate t) (ended q (masks p q 64 t)) ≡ end
-    cipher_turn s s' end out part at e' ep room inv =
-        let fits : length x ≤ q.rate = turn_fits 64 true x t rest rate size left cb er es el is wide some ec in
-        let ctl = turn_control 64 true x t rest rate size left cb er es el is wide some ec in
-        let cutting = turn_blocks 64 true x t rest rate size left cb er es el is wide some ec in
+        → take to (put_mid at (to - at) out part) ++ ciphers p q s' (blocks q.rate t) (ended q (masks p q 64 t)) ≡ end
+    cipher_turn s s' end out part at to et e' ep room inv =
+        let fits : length x ≤ q.rate = turn_fits 64 true rest x t cb k ec in
+        let cutting = turn_blocks 64 true rest x t cb k ec in
         let key : List ℕ = pick q.rate_places s in
         let lp : length part ≡ length x = ap length ep ∙ length_rated p q laws x s fits in
         let tail : List ℕ → List ℕ = λ z. ciphers p q z (blocks q.rate t) (ended q (masks p q 64 t)) in
         let next : List ℕ = p.forward (xors s (mask_with p q (control_byte q.rate 64 x (eqb (length t) 0)) x)) in
         let more : ciphers p q s (blocks q.rate rest) (ended q (masks p q 64 rest)) ≡ xors x key ++ tail next =
         ap (λ bs. ciphers p q s bs (ended q (map (mask p q 64) bs))) cutting ∙ ap (ciphers p q s (x ∷ blocks q.rate t)) (ended_first true 64 x t) in
-        ap (λ z. z ++ tail s') (take-put_mid at ((at + length x) - at) out part (at + length x) (omega arith) room)
+        ap (λ z. z ++ tail s') (take-put_mid at (to - at) out part to (omega arith) room)
         ∙ append_assoc (take at out) part (tail s')
         ∙ ap (λ z. take at out ++ (z ++ tail s')) ep
-        ∙ ap (λ z. take at out ++ (xors x key ++ tail z)) (e' ∙ ap (λ n. p.forward (xors s (mask_with p q n x))) ctl)
+        ∙ ap (λ z. take at out ++ (xors x key ++ tail z)) (e' ∙ ap (λ n. p.forward (xors s (mask_with p q n x))) ec)
         ∙ ap (λ z. take at out ++ z) (sym more)
         ∙ inv
 
-  -- the end of that loop
-  pub ciphers_all : (s end rest out was : List ℕ) (at n : ℕ) → length rest ≡ 0 → at ≡ n
-      → take at out ++ ciphers p q s (blocks q.rate rest) (ended q (masks p q 64 rest)) ≡ end → drop n out ≡ drop n was → out ≡ end ++ drop n was
-  ciphers_all s end [] out was at n none e inv kept =
-      sym (take-append-drop n out)
-      ∙ ap (λ z. take n out ++ z) kept
-      ∙ ap (λ z. z ++ drop n was) (ap (λ m. take m out) (sym e) ∙ sym (append-nil (take at out)) ∙ inv)
-  ciphers_all s end (a ∷ rest) out was at n none e inv kept = absurd (omega arith)
+-- nothing is left of a loop that fills the first n bytes of out, and `was` has what follows
+pub filled : (end rest out was : List ℕ) (at n : ℕ) → at ≡ n → take at out ++ rest ≡ end → rest ≡ [] → drop n out ≡ drop n was → out ≡ end ++ drop n was
+filled end rest out was at n e inv none kept =
+    sym (take-append-drop n out)
+    ∙ ap (λ z. take n out ++ z) kept
+    ∙ ap (λ z. z ++ drop n was) (ap (λ m. take m out) (sym e) ∙ sym (append-nil (take at out)) ∙ ap (λ z. take at out ++ z) (sym none) ∙ inv)

@@ -23,16 +23,18 @@ pub record Seen (d : ℕ) (ps s t : List ℕ) (i : ℕ) : Type 0 where
 pub seen_none : (ps s t : List ℕ) → Seen 0 ps s t 0
 seen_none ps s t = record { equal = λ e k h. absurd (omega arith); none = λ h. refl }
 
-pub seen_more : (d : ℕ) (ps s t : List ℕ) (i : ℕ) → Seen d ps s t i → Seen (bit_or d (bit_xor (get_or s (get_or ps i 0) 0) (get_or t i 0))) ps s t (i + 1)
-seen_more d ps s t i so =
-    let x = bit_xor (get_or s (get_or ps i 0) 0) (get_or t i 0) in
+-- the place and the byte of index i, o and b, are next
+pub seen_more : (d : ℕ) (ps s t : List ℕ) (i o b n : ℕ) → o ≡ get_or ps i 0 → b ≡ get_or t i 0 → n ≡ i + 1 → Seen d ps s t i → Seen (bit_or d (bit_xor (get_or s o 0) b)) ps s t n
+seen_more d ps s t i o b n eo eb en so =
+    let x = bit_xor (get_or s o 0) b in
+    let same : get_or s (get_or ps i 0) 0 ≡ get_or s o 0 = ap (λ k. get_or s k 0) (sym eo) in
     record {
-      equal = λ e.
+      equal = λ e k h.
           let both = or_none d x e in
-          below_more (λ k. get_or t k 0 ≡ get_or s (get_or ps k 0) 0) i (so.equal both.0) (sym (xor_none _ _ both.1));
+          below_more (λ k. get_or t k 0 ≡ get_or s (get_or ps k 0) 0) i (so.equal both.0) (sym eb ∙ sym (xor_none _ _ both.1) ∙ sym same) k (omega arith);
       none = λ h.
           let front : d ≡ 0 = so.none (λ k l. h k (omega arith)) in
-          let last : x ≡ 0 = ap (bit_xor (get_or s (get_or ps i 0) 0)) (h i (omega arith)) ∙ xor_self (get_or s (get_or ps i 0) 0) in
+          let last : x ≡ 0 = ap (bit_xor (get_or s o 0)) (eb ∙ h i (omega arith) ∙ same) ∙ xor_self (get_or s o 0) in
           ap₂ bit_or front last;
     }
 

@@ -34,6 +34,14 @@ pad_made zero n x h k = absurd (omega arith)
 pad_made (suc m) n [] h k = ap (λ z. 128 ∷ z) (sym (take_zeros m n (omega arith)))
 pad_made (suc m) n (a ∷ x) h k = ap (λ z. a ∷ z) (pad_made m n x (omega arith) (omega arith))
 
+-- ---- as many places as a block has bytes
+
+pub xors_front : (x ps s : List ℕ) → xors x (pick (take (length x) ps) s) ≡ xors x (pick ps s)
+unfolding xors
+xors_front [] ps s = refl
+xors_front (a ∷ x) [] s = refl
+xors_front (a ∷ x) (p ∷ ps) s = ap (λ t. bit_xor a (get_or s p 0) ∷ t) (xors_front x ps s)
+
 -- ---- the places
 
 module _ (p : Perm) (q : Plan) (laws : Sound p q) where
@@ -51,6 +59,10 @@ module _ (p : Perm) (q : Plan) (laws : Sound p q) where
 
   pub masked_inside : (i : ℕ) → i < q.rate → get_or q.masked_places i 0 < p.size
   masked_inside i h = rw (masked_at i) at (laws.inside (q.rate + i) (omega (arith, count)))
+
+  -- the place of a turn of a loop over the masked places of a state of b bytes
+  pub masked_turn : (i o b : ℕ) → i < length q.masked_places → o ≡ get_or q.masked_places i 0 → b ≡ p.size → o < b
+  masked_turn i o b h eo eb = let inside = masked_inside i (omega (arith, laws.masked_count)) in omega (arith, inside)
 
   pub masked_apart : (i j : ℕ) → i < q.rate → j < q.rate → get_or q.masked_places i 0 ≡ get_or q.masked_places j 0 → i ≡ j
   masked_apart i j h k e =
@@ -73,9 +85,9 @@ module _ (p : Perm) (q : Plan) (laws : Sound p q) where
   length_so_far : (vs : List ℕ) (i : ℕ) → length (so_far vs i) ≡ p.size
   length_so_far vs i = length_put (take i q.masked_places) (take i vs) (zero_mask p) ∙ length-replicate p.size 0
 
-  pub absorb_more : (s vs : List ℕ) (i : ℕ) → length vs ≡ q.rate → i < q.rate
+  absorb_next : (s vs : List ℕ) (i : ℕ) → length vs ≡ q.rate → i < q.rate
       → set (xors s (so_far vs i)) (get_or q.masked_places i 0) (bit_xor (get_or (xors s (so_far vs i)) (get_or q.masked_places i 0) 0) (get_or vs i 0)) ≡ xors s (so_far vs (i + 1))
-  absorb_more s vs i wide h =
+  absorb_next s vs i wide h =
       let mi : i < length q.masked_places = omega (arith, laws.masked_count) in
       let vi : i < length vs = omega arith in
       let lp = length-take-le i q.masked_places (omega arith) in
@@ -90,6 +102,11 @@ module _ (p : Perm) (q : Plan) (laws : Sound p q) where
       let pushed : so_far vs (i + 1) ≡ set (so_far vs i) (get_or q.masked_places i 0) (get_or vs i 0) =
       rw (take_more q.masked_places i 0 mi, take_more vs i 0 vi) (put_push (take i q.masked_places) (take i vs) (get_or q.masked_places i 0) (get_or vs i 0) (zero_mask p) (lp ∙ sym lv)) in
       xors_place s (so_far vs i) (get_or q.masked_places i 0) (get_or vs i 0) (omega (arith, length_so_far vs i, masked_inside i h)) clear ∙ ap (xors s) (sym pushed)
+
+  -- t is what s has become, and the place and the byte of index i, o and b, are next
+  pub absorb_more : (s vs t : List ℕ) (i o b n : ℕ) → length vs ≡ q.rate → i < q.rate → o ≡ get_or q.masked_places i 0 → b ≡ get_or vs i 0 → n ≡ i + 1
+      → t ≡ xors s (so_far vs i) → set t o (bit_xor (get_or t o 0) b) ≡ xors s (so_far vs n)
+  absorb_more s vs t i o b n wide h eo eb en et = rw (et, eo, eb, en) (absorb_next s vs i wide h)
 
   pub length_padded : (x : List ℕ) → length (padded q.rate x) ≡ q.rate
   length_padded x = length-take-le q.rate (x ++ 128 ∷ replicate q.rate 0) (simp (length-append, length-replicate) (omega arith))

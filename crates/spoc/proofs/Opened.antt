@@ -1,17 +1,19 @@
--- The loop of open, turn by turn. Assumes nothing.
-use Rattle.std.proofs.Common.{◌≡◌, ℕ, zero, suc, ◌+◌, ◌-◌, ◌<◌, ◌≤◌, min, true, cond, eqb, ltb, List, [], ◌∷◌, ◌++◌, map, length, take, drop, sym, refl, ap, ◌∙◌, append_assoc, append-nil, arith}
+-- The loop of open, and of both ways, turn by turn. Assumes nothing.
+use Rattle.std.proofs.Common.{◌≡◌, ℕ, zero, suc, ◌+◌, ◌-◌, ◌<◌, ◌≤◌, min, true, cond, eqb, ltb, List, [], ◌∷◌, ◌++◌, map, length, take, drop, sym, refl, ap, ◌∙◌, ap₂, append_assoc, arith}
 use borrow.Rule.Slice.PartMut.{put_mid}
 use lib.Bits.{bit_xor}
 use Rattle.std.specs.List.{flat_map}
-use Rattle.std.proofs.lemmas.List.{length-append, take-append-drop, length-take, length-drop}
+use Rattle.std.proofs.lemmas.List.{length-append, length-take, length-drop}
 use Rattle.std.proofs.lemmas.Slice.{take-put_mid}
 use Rattle.std.proofs.lemmas.Bool.{ne_eqb}
 use Rattle.permutations.specs.Bytes.{xors}
 use Rattle.permutations.specs.Permutation.{Perm}
+use Rattle.spoc.specs.declared.mode.Way.{Way}
+use Rattle.spoc.specs.declared.mode.Way.TheVariants.{Seal, Open}
 use Rattle.spoc.specs.Feed.{cut, blocks, control, mask_with, mask, ended, run, pick, plains}
 use Rattle.spoc.specs.Suite.{Plan, Sound}
-use Rattle.spoc.specs.Turns.{control_byte, opened_masks}
-use Rattle.spoc.proofs.Blocks.{blocks_more, flagged_mask, turn_fits, turn_control, turn_blocks}
+use Rattle.spoc.specs.Turns.{control_byte, opened_masks, plain_of, masks_of, output_of}
+use Rattle.spoc.proofs.Blocks.{First, first_at, last_at, block_end, blocks_more, flagged_mask, turn, turn_fits, turn_blocks, cipher_turn}
 use Rattle.spoc.proofs.Masks.{length_rated}
 
 module _ (p : Perm) (q : Plan) (laws : Sound p q) where
@@ -54,44 +56,64 @@ module _ (p : Perm) (q : Plan) (laws : Sound p q) where
   some_left s [] h = absurd (omega arith)
   some_left s (a ∷ t) h = omega arith
 
-  -- a turn of the loop over a ciphertext: `at` bytes of out are written, and the next are y's message block
-  module _ (y t rest : List ℕ) (rate size left cb : ℕ)
-      (er : rate ≡ q.rate) (es : size ≡ rate) (el : left ≡ length rest)
-      (is : rest ≡ y ++ t) (wide : length y ≡ min size (length rest)) (some : 0 < length rest)
-      (ec : cb ≡ control_byte rate 64 y (eqb (left - length y) 0)) where
-    pub open_turn : (s s' end end' out part : List ℕ) (at : ℕ)
+  -- a turn of the loop over a ciphertext: `at` bytes of out are written, and the next, up to `to`, are y's message block
+  module _ (rest y t : List ℕ) (cb : ℕ) (k : First q.rate rest y t) (ec : cb ≡ control_byte q.rate 64 y (eqb (length t) 0)) where
+    pub open_turn : (s s' end end' out part : List ℕ) (at to : ℕ) → to ≡ at + length y
         → part ≡ xors y (pick q.rate_places s) → s' ≡ p.forward (xors s (mask_with p q cb (xors y (pick q.rate_places s)))) → at ≤ length out
         → run p s (opened_masks p q s rest) ≡ end
         → take at out ++ flat_map (λ x. x) (plains p q s (blocks q.rate rest)) ≡ end'
         → (run p s' (opened_masks p q s' t) ≡ end)
-        × (take (at + length y) (put_mid at ((at + length y) - at) out part) ++ flat_map (λ x. x) (plains p q s' (blocks q.rate t)) ≡ end')
-    open_turn s s' end end' out part at ep e' room inv inv' =
-        let fits : length y ≤ q.rate = turn_fits p q laws 64 true y t rest rate size left cb er es el is wide some ec in
-        let ctl = turn_control p q laws 64 true y t rest rate size left cb er es el is wide some ec in
-        let cutting = turn_blocks p q laws 64 true y t rest rate size left cb er es el is wide some ec in
+        × (take to (put_mid at (to - at) out part) ++ flat_map (λ x. x) (plains p q s' (blocks q.rate t)) ≡ end')
+    open_turn s s' end end' out part at to et ep e' room inv inv' =
+        let fits : length y ≤ q.rate = turn_fits p q laws 64 true rest y t cb k ec in
         let byte : ℕ = control_byte q.rate 64 y (eqb (length t) 0) in
         let state : s' ≡ p.forward (xors s (mask_with p q byte part)) =
-        e' ∙ ap (λ n. p.forward (xors s (mask_with p q n (xors y (pick q.rate_places s))))) ctl ∙ ap (λ z. p.forward (xors s (mask_with p q byte z))) (sym ep) in
+        e' ∙ ap (λ n. p.forward (xors s (mask_with p q n (xors y (pick q.rate_places s))))) ec ∙ ap (λ z. p.forward (xors s (mask_with p q byte z))) (sym ep) in
         let row : plains p q s (blocks q.rate rest) ≡ part ∷ plains p q s' (blocks q.rate t) =
-        ap (plains p q s) cutting ∙ plains_step s y t part ep fits ∙ ap (λ z. part ∷ plains p q z (blocks q.rate t)) (sym state) in
+        ap (plains p q s) (turn_blocks p q laws 64 true rest y t cb k ec) ∙ plains_step s y t part ep fits ∙ ap (λ z. part ∷ plains p q z (blocks q.rate t)) (sym state) in
         let ms : opened_masks p q s rest ≡ mask_with p q byte part ∷ opened_masks p q s' t =
         ap (λ xs. ended q (map (mask p q 64) xs)) row ∙ masks_step s y t part ep fits (map (mask p q 64) (plains p q s' (blocks q.rate t))) (none_left s' t) (some_left s' t) in
         let lp : length part ≡ length y = as_long s y t part ep fits in
-        let written = take-put_mid at ((at + length y) - at) out part (at + length y) (omega arith) room in (
+        let written = take-put_mid at (to - at) out part to (omega arith) room in (
           ap (λ z. run p z (opened_masks p q s' t)) state ∙ ap (run p s) (sym ms) ∙ inv,
           ap (λ z. z ++ flat_map (λ x. x) (plains p q s' (blocks q.rate t))) written ∙ append_assoc (take at out) part _ ∙ ap (λ xs. take at out ++ flat_map (λ x. x) xs) (sym row) ∙ inv',
         )
 
-  pub open_all : (s end end' rest out was : List ℕ) (at n : ℕ) → length rest ≡ 0 → at ≡ n
-      → run p s (opened_masks p q s rest) ≡ end → take at out ++ flat_map (λ x. x) (plains p q s (blocks q.rate rest)) ≡ end' → drop n out ≡ drop n was
-      → (s ≡ end) × (out ≡ end' ++ drop n was)
-  open_all s end end' [] out was at n none e inv inv' kept = (
-    inv,
-    sym (take-append-drop n out)
-        ∙ ap (λ z. take n out ++ z) kept
-        ∙ ap (λ z. z ++ drop n was) (ap (λ m. take m out) (sym e) ∙ sym (append-nil (take at out)) ∙ inv'),
-  )
-  open_all s end end' (a ∷ rest) out was at n none e inv inv' kept = absurd (omega arith)
+  -- ---- both ways
+
+  module _ (rest x t : List ℕ) (cb : ℕ) (k : First q.rate rest x t) (ec : cb ≡ control_byte q.rate 64 x (eqb (length t) 0)) where
+    pub way_turn : (w : Way) (s s' end end' out part : List ℕ) (at to : ℕ) → to ≡ at + length x
+        → part ≡ xors x (pick q.rate_places s) → s' ≡ p.forward (xors s (mask_with p q cb (plain_of w x (xors x (pick q.rate_places s))))) → at ≤ length out
+        → run p s (masks_of w p q s rest) ≡ end
+        → take at out ++ output_of w p q s rest ≡ end'
+        → (run p s' (masks_of w p q s' t) ≡ end) × (take to (put_mid at (to - at) out part) ++ output_of w p q s' t ≡ end')
+    way_turn Seal s s' end end' out part at to et ep e' room inv inv' =
+        (turn p q laws 64 true rest x t cb k ec s s' end e' inv, cipher_turn p q laws rest x t cb k ec s s' end' out part at to et e' ep room inv')
+    way_turn Open s s' end end' out part at to et ep e' room inv inv' = open_turn rest x t cb k ec s s' end end' out part at to et ep e' room inv inv'
+
+  -- a turn of the loop over xs, from `at` to `end`; r, r1 and r2 are the rate
+  pub way_at : (w : Way) (xs : List ℕ) (at end cb r r1 r2 : ℕ) → r ≡ q.rate → r1 ≡ q.rate → r2 ≡ q.rate → at < length xs → end ≡ min (length xs) (at + r1)
+      → cb ≡ control_byte r2 64 (take (end - at) (drop at xs)) (eqb end (length xs))
+      → (s s' to to' out part : List ℕ) → part ≡ xors (take (end - at) (drop at xs)) (pick q.rate_places s)
+      → s' ≡ p.forward (xors s (mask_with p q cb (plain_of w (take (end - at) (drop at xs)) (xors (take (end - at) (drop at xs)) (pick q.rate_places s))))) → at ≤ length out
+      → run p s (masks_of w p q s (drop at xs)) ≡ to
+      → take at out ++ output_of w p q s (drop at xs) ≡ to'
+      → (run p s' (masks_of w p q s' (drop (at + r) xs)) ≡ to) × (take end (put_mid at (end - at) out part) ++ output_of w p q s' (drop (at + r) xs) ≡ to')
+  way_at w xs at end cb r r1 r2 er er1 er2 inside is ec s s' to to' out part ep e' room inv inv' =
+      let x : List ℕ = take (end - at) (drop at xs) in
+      let is' : end ≡ min (length xs) (at + q.rate) = is ∙ ap (λ n. min (length xs) (at + n)) er1 in
+      let ec' = ec ∙ ap₂ (λ n b. control_byte n 64 x b) er2 (last_at q.rate xs at end laws.rate_low inside is') in
+      let done = way_turn (drop at xs) x (drop (at + q.rate) xs) cb (first_at q.rate xs at end laws.rate_low inside is') ec' w s s' to to' out part at end
+      (block_end q.rate xs at end laws.rate_low inside is') ep e' room inv inv' in (
+        ap (λ n. run p s' (masks_of w p q s' (drop (at + n) xs))) er ∙ done.0,
+        ap (λ n. take end (put_mid at (end - at) out part) ++ output_of w p q s' (drop (at + n) xs)) er ∙ done.1,
+      )
+
+  pub way_none : (w : Way) (s rest : List ℕ) → length rest ≡ 0 → (run p s (masks_of w p q s rest) ≡ s) × (output_of w p q s rest ≡ [])
+  way_none Seal s [] h = (refl, refl)
+  way_none Open s [] h = (refl, refl)
+  way_none Seal s (a ∷ rest) h = absurd (omega arith)
+  way_none Open s (a ∷ rest) h = absurd (omega arith)
 
   -- ---- the message blocks of a ciphertext
 

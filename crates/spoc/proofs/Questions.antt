@@ -1,16 +1,19 @@
--- What no refusal says of the lengths, what a tag that disagrees leaves, and what is sealed and opened again. Assumes nothing.
-use Rattle.std.proofs.Common.{◌≡◌, ℕ, ◌≤◌, Bool, true, false, cond, ◌&&◌, eqb, leb, List, ◌++◌, length, take, drop, replicate, Some, None, Ok, Err, Option, Result, sym, refl, ap, ◌∙◌, arith}
+-- What seal and open do past their questions, and what is sealed and opened again. Assumes nothing.
+use Rattle.std.proofs.Common.{◌≡◌, ℕ, Bool, true, false, cond, ◌&&◌, eqb, leb, List, ◌++◌, length, take, drop, replicate, Some, None, Ok, Err, Option, Result, sym, refl, ap, ◌∙◌, ap₂, arith}
+use Rattle.std.specs.List.{flat_map}
 use Rattle.std.specs.Str.{bytes_eq}
 use Rattle.std.proofs.lemmas.List.{take_at, drop_at}
-use Rattle.std.proofs.lemmas.Bool.{leb-true, eqb-true, eq-eqb}
+use Rattle.std.proofs.lemmas.Bool.{eq-eqb}
 use Rattle.permutations.specs.Permutation.{Perm, Bijective}
 use Rattle.spoc.specs.declared.fault.SealFault.{SealFault}
 use Rattle.spoc.specs.declared.fault.SealFault.TheVariants.{KeyLength, NonceLength, TooLong, OutputShort, TagLength, TagMismatch}
-use Rattle.spoc.specs.Feed.{tag, ciphertext, plaintext, opens}
-use Rattle.spoc.specs.Seal.{lengths_no, first_no, Sealed, sealed, sealed_unless, opened, opened_unless, judged, opened_again}
-use Rattle.spoc.specs.Suite.{Plan, Sound}
+use Rattle.spoc.specs.declared.mode.Way.TheVariants.{Seal, Open}
+use Rattle.spoc.specs.Feed.{blocks, masks, ended, run, pick, ciphers, tag, ciphertext, plains, plaintext, opens}
+use Rattle.spoc.specs.Seal.{first_no, Sealed, sealed, sealed_unless, opened, opened_unless, judged, opened_again}
+use Rattle.spoc.specs.Suite.{Plan, Sound, start}
+use Rattle.spoc.specs.Turns.{at_message, masks_of, opened_masks, output_of}
 use Rattle.spoc.proofs.Law.{spoc_laws}
-use Rattle.spoc.proofs.Sealed.{plain_length}
+use Rattle.spoc.proofs.Sealed.{text_is, end_is, plain_is, plain_length, opened_end}
 
 some_not : (e : SealFault) → ◌≡◌ {A = Option SealFault} (Some e) None → ⊥
 some_not e h = let z : ◌≡◌ {A = ℕ} 0 1 = cc in omega arith
@@ -24,31 +27,53 @@ passes true true false y z h = absurd (some_not TooLong h)
 passes true false x y z h = absurd (some_not NonceLength h)
 passes false w x y z h = absurd (some_not KeyLength h)
 
-pub lengths_fit : (r : ℕ) (d m o t : List ℕ) → lengths_no r d m o t ≡ None → (length m ≤ length o) × (length t ≡ r)
-lengths_fit r d m o t h =
-    let all = passes true true (leb (length d) 65535 && leb (length m) 65535) (leb (length m) (length o)) (eqb (length t) r) h in
-    (leb-true (length m) (length o) all.3, eqb-true (length t) r all.4)
+-- ---- past the questions
 
--- ---- a tag that disagrees
+-- r is the rate, and k' and n' are the key and the nonce as arrays; s is the state before the message, and s' the end state
+module _ (p : Perm) (q : Plan) (k n d m o t k' n' s s' out' : List ℕ) (r : ℕ)
+    (er : r ≡ q.rate) (none : first_no r k n d m o t ≡ None) (ek : k' ≡ k) (en : n' ≡ n) (es : s ≡ at_message p q (start p q k' n') d m) where
+  none_said : first_no q.rate k n d m o t ≡ None
+  none_said = ap (λ z. first_no z k n d m o t) (sym er) ∙ none
 
-module _ (p : Perm) (q : Plan) (laws : Sound p q) (k n d c o t : List ℕ) where
-  none_said : length k ≡ 16 → length n ≡ 16 → lengths_no q.rate d c o t ≡ None → first_no q.rate k n d c o t ≡ None
-  none_said lk ln e = rw (eq-eqb (length k) 16 lk, eq-eqb (length n) 16 ln) e
+  before_is : s ≡ at_message p q (start p q k n) d m
+  before_is = es ∙ ap (λ z. at_message p q (start p q z n') d m) ek ∙ ap (λ z. at_message p q (start p q k z) d m) en
 
-  -- k' and n' are the key and the nonce as arrays, and m what the output held when the tags were compared
-  pub mismatched : (k' n' m : List ℕ) (r : Bool) → length k ≡ 16 → length n ≡ 16 → k' ≡ k → n' ≡ n → lengths_no q.rate d c o t ≡ None
-      → r ≡ bytes_eq (tag p q k' n' d (plaintext p q k' n' d c)) t → r ≡ false → m ≡ plaintext p q k' n' d c ++ drop (length c) o
-      → ((opened p q k n d c o t).answer ≡ Err TagMismatch) × ((opened p q k n d c o t).out ≡ replicate (length c) 0 ++ drop (length c) m)
-  mismatched k' n' m r lk ln ek en none e differs em =
-      let message : List ℕ = plaintext p q k n d c in
-      let tested : bytes_eq (tag p q k n d message) t ≡ false =
-      ap (λ z. bytes_eq (tag p q z n d (plaintext p q z n d c)) t) (sym ek) ∙ ap (λ z. bytes_eq (tag p q k' z d (plaintext p q k' z d c)) t) (sym en) ∙ sym e ∙ differs in
-      let is : opened p q k n d c o t ≡ record { answer = Err TagMismatch; out = replicate (length c) 0 ++ drop (length c) o } =
-      ap (λ z. opened_unless z o (judged (cond (bytes_eq (tag p q k n d message) t) (Some message) None) (length c) (drop (length c) o))) (none_said lk ln none)
-      ∙ ap (λ z. judged (cond z (Some message) None) (length c) (drop (length c) o)) tested in
-      let rest : drop (length c) m ≡ drop (length c) o =
-      ap (drop (length c)) em ∙ drop_at (plaintext p q k' n' d c) (drop (length c) o) (length c) (plain_length p q laws k' n' d c) in
-      (ap (λ z. z.answer) is, ap (λ z. z.out) is ∙ ap (λ z. replicate (length c) 0 ++ z) (sym rest))
+  pub sealed_is : (t' : List ℕ) → s' ≡ run p s (masks_of Seal p q s m) → out' ≡ output_of Seal p q s m ++ drop (length m) o → t' ≡ pick q.masked_places s'
+      → sealed p q k n d m o t ≡ record { answer = Ok tt; out = out'; tag = t' }
+  sealed_is t' es' eo et =
+      let text : out' ≡ ciphertext p q k n d m ++ drop (length m) o =
+      eo ∙ ap (λ z. z ++ drop (length m) o) (ap (λ z. ciphers p q z (blocks q.rate m) (ended q (masks p q 64 m))) before_is ∙ text_is p q k n d m) in
+      let end : t' ≡ tag p q k n d m =
+      et ∙ ap (pick q.masked_places) (es' ∙ ap (λ z. run p z (ended q (masks p q 64 m))) before_is ∙ end_is p q (start p q k n) d m) in
+      ap (λ z. sealed_unless z o t record { answer = Ok tt; out = ciphertext p q k n d m ++ drop (length m) o; tag = tag p q k n d m }) none_said
+      ∙ ap₂ (λ x y. record { answer = Ok tt; out = x; tag = y }) (sym text) (sym end)
+
+  -- here m is the ciphertext
+  module _ (laws : Sound p q) (b : Bool) (es' : s' ≡ run p s (masks_of Open p q s m)) (eo : out' ≡ output_of Open p q s m ++ drop (length m) o)
+      (eb : b ≡ bytes_eq (pick q.masked_places s') t) where
+    text_opened : out' ≡ plaintext p q k n d m ++ drop (length m) o
+    text_opened = eo ∙ ap (λ z. z ++ drop (length m) o) (ap (λ z. flat_map (λ x. x) (plains p q z (blocks q.rate m))) before_is ∙ plain_is p q k n d m)
+
+    judged_is : opened p q k n d m o t ≡ judged (cond b (Some (plaintext p q k n d m)) None) (length m) (drop (length m) o)
+    judged_is =
+        let end = es' ∙ ap (λ z. run p z (opened_masks p q z m)) before_is ∙ opened_end p q laws k n d m in
+        let asked : bytes_eq (tag p q k n d (plaintext p q k n d m)) t ≡ b = ap (λ z. bytes_eq (pick q.masked_places z) t) (sym end) ∙ sym eb in
+        ap (λ z. opened_unless z o (judged (opens p q k n d m t) (length m) (drop (length m) o))) none_said
+        ∙ ap (λ z. judged (cond z (Some (plaintext p q k n d m)) None) (length m) (drop (length m) o)) asked
+
+    pub agreed : b ≡ true → opened p q k n d m o t ≡ record { answer = Ok tt; out = out' }
+    agreed e =
+        judged_is
+        ∙ ap (λ z. judged (cond z (Some (plaintext p q k n d m)) None) (length m) (drop (length m) o)) e
+        ∙ ap (λ z. record { answer = Ok tt; out = z }) (sym text_opened)
+
+    pub mismatched : b ≡ false → opened p q k n d m o t ≡ record { answer = Err TagMismatch; out = replicate (length m) 0 ++ drop (length m) out' }
+    mismatched e =
+        let rest : drop (length m) out' ≡ drop (length m) o =
+        ap (drop (length m)) text_opened ∙ drop_at (plaintext p q k n d m) (drop (length m) o) (length m) (plain_length p q laws k n d m) in
+        judged_is
+        ∙ ap (λ z. judged (cond z (Some (plaintext p q k n d m)) None) (length m) (drop (length m) o)) e
+        ∙ ap (λ z. record { answer = Err TagMismatch; out = replicate (length m) 0 ++ z }) (sym rest)
 
 -- ---- sealed and opened again
 

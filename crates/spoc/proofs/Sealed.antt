@@ -7,7 +7,7 @@ use Rattle.permutations.specs.Bytes.{xors}
 use Rattle.permutations.specs.Permutation.{Perm}
 use Rattle.spoc.specs.Feed.{blocks, zero_mask, mask, masks, ended, feed, run, ciphers, end_state, ciphertext, before, plains, plaintext}
 use Rattle.spoc.specs.Suite.{Plan, Sound, start}
-use Rattle.spoc.specs.Turns.{ended_if, first_mask, opened_masks}
+use Rattle.spoc.specs.Turns.{ended_if, first_mask, at_message, opened_masks}
 use Rattle.spoc.specs.Ends.{run_append}
 use Rattle.spoc.proofs.Opened.{length_plains, blocks_plains}
 
@@ -38,25 +38,12 @@ module _ (p : Perm) (q : Plan) where
   feed_is [] (y ∷ m) = rw (some y m) refl
   feed_is (x ∷ d) (y ∷ m) = rw (some x d, some y m) (ended_append q (zero_mask p ∷ masks p q 32 (x ∷ d)) _ _)
 
-  -- the state after the zero mask and the data, where m is the message or its ciphertext
-  abbrev pub at_message : List ℕ → List ℕ → List ℕ → List ℕ
-  at_message s d m =
-      run p (p.forward (xors s (first_mask p q (eqb (length d) 0 && eqb (length m) 0)))) (ended_if (eqb (length m) 0) q (masks p q 32 d))
-
-  -- the states of seal, one after the other
-  pub walked : (s0 s1 s2 s d m : List ℕ) (e1 e2 : Bool) → s0 ≡ s → e1 ≡ (eqb (length d) 0 && eqb (length m) 0) → e2 ≡ eqb (length m) 0
-      → s1 ≡ p.forward (xors s0 (first_mask p q e1)) → s2 ≡ run p s1 (ended_if e2 q (masks p q 32 d)) → s2 ≡ at_message s d m
-  walked s0 s1 s2 s d m e1 e2 is0 is1 is2 one two =
-      two
-      ∙ ap (λ z. run p s1 (ended_if z q (masks p q 32 d))) is2
-      ∙ ap (λ z. run p z (ended_if (eqb (length m) 0) q (masks p q 32 d))) (one ∙ ap (λ z. p.forward (xors s0 (first_mask p q z))) is1 ∙ ap (λ z. p.forward (xors z (first_mask p q (eqb (length d) 0 && eqb (length m) 0)))) is0)
-
-  pub end_is : (s d m : List ℕ) → run p (at_message s d m) (ended q (masks p q 64 m)) ≡ end_state p q s d m
+  pub end_is : (s d m : List ℕ) → run p (at_message p q s d m) (ended q (masks p q 64 m)) ≡ end_state p q s d m
   end_is s d m =
       sym (run_append p (ended_if (eqb (length m) 0) q (masks p q 32 d)) (ended q (masks p q 64 m)) _)
       ∙ ap (run p s) (sym (feed_is d m))
 
-  pub text_is : (k n d m : List ℕ) → ciphers p q (at_message (start p q k n) d m) (blocks q.rate m) (ended q (masks p q 64 m)) ≡ ciphertext p q k n d m
+  pub text_is : (k n d m : List ℕ) → ciphers p q (at_message p q (start p q k n) d m) (blocks q.rate m) (ended q (masks p q 64 m)) ≡ ciphertext p q k n d m
   text_is k n d m =
       let ds : List (List ℕ) = ended_if (eqb (length m) 0) q (masks p q 32 d) in
       let ms : List (List ℕ) = ended q (masks p q 64 m) in
@@ -68,10 +55,10 @@ module _ (p : Perm) (q : Plan) where
       ∙ ap (ciphers p q (run p (start p q k n) (take (before q d) (feed p q d m))) (blocks q.rate m)) (sym rest)
 
   -- before a block of the message no mask is flagged
-  pub unflagged : (s d : List ℕ) (a : ℕ) (m : List ℕ) → at_message s d (a ∷ m) ≡ run p s (zero_mask p ∷ masks p q 32 d)
+  pub unflagged : (s d : List ℕ) (a : ℕ) (m : List ℕ) → at_message p q s d (a ∷ m) ≡ run p s (zero_mask p ∷ masks p q 32 d)
   unflagged s d a m = rw (some a m) (rw (and_right (eqb (length d) 0) false refl) refl)
 
-  pub plain_is : (k n d c : List ℕ) → flat_map (λ x. x) (plains p q (at_message (start p q k n) d c) (blocks q.rate c)) ≡ plaintext p q k n d c
+  pub plain_is : (k n d c : List ℕ) → flat_map (λ x. x) (plains p q (at_message p q (start p q k n) d c) (blocks q.rate c)) ≡ plaintext p q k n d c
   plain_is k n d [] = refl
   plain_is k n d (a ∷ c) = ap (λ z. flat_map (λ x. x) (plains p q z (blocks q.rate (a ∷ c)))) (unflagged (start p q k n) d a c)
 
@@ -80,9 +67,9 @@ module _ (p : Perm) (q : Plan) where
     plain_length = length_plains p q laws (length c) _ c (omega arith)
 
     -- the masks that open makes lead to the message's end state
-    pub opened_end : run p (at_message (start p q k n) d c) (opened_masks p q (at_message (start p q k n) d c) c) ≡ end_state p q (start p q k n) d (plaintext p q k n d c)
+    pub opened_end : run p (at_message p q (start p q k n) d c) (opened_masks p q (at_message p q (start p q k n) d c) c) ≡ end_state p q (start p q k n) d (plaintext p q k n d c)
     opened_end =
-        let s : List ℕ = at_message (start p q k n) d c in
+        let s : List ℕ = at_message p q (start p q k n) d c in
         let m : List ℕ = flat_map (λ x. x) (plains p q s (blocks q.rate c)) in
         let same : m ≡ plaintext p q k n d c = plain_is k n d c in
         let long : length c ≡ length m = sym (ap length same ∙ plain_length) in

@@ -1,11 +1,12 @@
-ghost use Rattle.std.specs.Prelude.{◌≡◌, ◌<◌, ◌≤◌, ◌++◌, length, take, drop, if◌then◌else◌};
-ghost use Rattle.std.specs.List.{flat_map};
+ghost use Rattle.std.specs.Prelude.{◌≡◌, ℕ, ◌<◌, ◌≤◌, ◌++◌, length, take, drop, if◌then◌else◌, bit_xor, slice_index, slice_set};
 ghost use Rattle.std.specs.Str.{bytes_eq};
 ghost use Rattle.permutations.specs.Bytes.{xors};
-ghost use Rattle.spoc.specs.Feed.{blocks, padded, put, zero_mask, mask_with, masks, ended, run, ciphers, pick, plains};
-ghost use Rattle.spoc.specs.Turns.{ended_if, control_byte, first_mask, opened_masks};
+ghost use Rattle.spoc.specs.Feed.{padded, put, zero_mask, mask_with, masks, control_place, run, pick};
+ghost use Rattle.spoc.specs.Turns.{ended_if, control_byte, first_mask, at_message, plain_of, masks_of, output_of};
+ghost use Rattle.spoc.specs.Suite.{start};
 
 use crate::suite::Suite;
+use std::marker::PhantomData;
 
 // The control byte of a full block of data; a short block's is 0x10 more.
 const DATA: u8 = 0x20;
@@ -16,19 +17,11 @@ const MESSAGE: u8 = 0x40;
 // What the last mask of a feed has in its control byte beside the rest.
 const LAST: u8 = 0x80;
 
-// The state is as long as the permutation means: generic code calls this to know it.
-fn sized<const B: usize, S: Suite<B>>(state: [u8; B])
-    ensures array { B ≡ S.Bijection.meaning.size }
-    ensures state { length state.entry ≡ S.Bijection.meaning.size }
-{
-    S::sized();
-}
-
-// The state has at most 64 bytes: generic code calls this to know it.
-pub(crate) fn small<const B: usize, S: Suite<B>>()
-    ensures { B ≤ 64 }
-{
-    S::sized();
+// Whether a message goes in and its ciphertext comes out, or the other way round.
+#[derive(Clone, Copy)]
+pub enum Way {
+    Seal,
+    Open,
 }
 
 // A short block, followed by 0x80 and zeros.
@@ -37,7 +30,7 @@ fn padded_block(block: &[u8]) -> [u8; 16]
     ensures { result ≡ padded 16 block.now }
 {
     let mut bytes = [0; 16];
-    bytes[0..block.len()].copy_from_slice(block);
+    bytes[..block.len()].copy_from_slice(block);
     bytes[block.len()] = 0x80;
     bytes
 }
@@ -48,55 +41,8 @@ fn full_block(block: &[u8], rate: usize) -> [u8; 16]
     ensures { take rate result ≡ block.now }
 {
     let mut bytes = [0; 16];
-    bytes[0..rate].copy_from_slice(&block[0..rate]);
+    bytes[..rate].copy_from_slice(&block[..rate]);
     bytes
-}
-
-// As many bytes as there are masked places, xored into these.
-fn mask_in<const B: usize, S: Suite<B>>(state: &mut [u8; B], bytes: &[u8])
-    requires { length bytes.now ≡ S.SuiteModel.plan.rate }
-    ensures { state.new ≡ xors state.old (put S.SuiteModel.plan.masked_places bytes.now (zero_mask S.Bijection.meaning)) }
-{
-    sized::<B, S>(*state);
-    let places = S::masked_places();
-    for i in 0..places.len() {
-        state[places[i]] ^= bytes[i];
-    }
-}
-
-// A block, padded if it is short, xored into the masked places.
-fn mask_block<const B: usize, S: Suite<B>>(state: &mut [u8; B], block: &[u8])
-    requires { length block.now ≤ S.SuiteModel.plan.rate }
-    ensures { state.new ≡ xors state.old (put S.SuiteModel.plan.masked_places (padded S.SuiteModel.plan.rate block.now) (zero_mask S.Bijection.meaning)) }
-{
-    let rate = S::rate_bytes();
-    if block.len() < rate {
-        let bytes = padded_block(block);
-        mask_in::<B, S>(state, &bytes[0..rate]);
-    } else {
-        let bytes = full_block(block, rate);
-        mask_in::<B, S>(state, &bytes[0..rate]);
-    }
-}
-
-// A block's mask xored into the state.
-fn absorb<const B: usize, S: Suite<B>>(state: &mut [u8; B], block: &[u8], control: u8)
-    requires { length block.now ≤ S.SuiteModel.plan.rate }
-    ensures { state.new ≡ xors state.old (mask_with S.Bijection.meaning S.SuiteModel.plan control block.now) }
-{
-    S::sized();
-    mask_block::<B, S>(state, block);
-    let place = S::rate_places()[0];
-    state[place] ^= control;
-}
-
-// A block's mask goes in, and forward follows.
-fn step<const B: usize, S: Suite<B>>(state: &mut [u8; B], block: &[u8], control: u8)
-    requires { length block.now ≤ S.SuiteModel.plan.rate }
-    ensures { state.new ≡ S.Bijection.meaning.forward (xors state.old (mask_with S.Bijection.meaning S.SuiteModel.plan control block.now)) }
-{
-    absorb::<B, S>(state, block, control);
-    S::forward(state);
 }
 
 // The control byte of a block, full or short, of which `last` says whether it is the last of the feed.
@@ -118,156 +64,196 @@ fn flag_of(last: bool) -> u8
     if last { LAST } else { 0 }
 }
 
-// The zero mask goes in, and forward follows; `ends` says whether it is the only mask.
-pub(crate) fn first_step<const B: usize, S: Suite<B>>(start: &mut [u8; B], ends: bool)
-    ensures { start.new ≡ S.Bijection.meaning.forward (xors start.old (first_mask S.Bijection.meaning S.SuiteModel.plan ends)) }
-{
-    sized::<B, S>(*start);
-    let place = S::rate_places()[0];
-    start[place] ^= flag_of(ends);
-    S::forward(start);
+// The state of a suite's cipher, which blocks go into.
+#[derive(Drop)]
+pub(crate) struct Duplex<const B: usize, S> {
+    pub(crate) state: [u8; B],
+    pub(crate) suite: PhantomData<S>,
 }
 
-// Each block of the data goes in; `ends` says whether the last of them is the last of the feed.
-pub(crate) fn absorb_data<const B: usize, S: Suite<B>>(state: &mut [u8; B], data: &[u8], ends: bool)
-    ensures { state.new ≡ run S.Bijection.meaning state.old (ended_if ends S.SuiteModel.plan (masks S.Bijection.meaning S.SuiteModel.plan 0x20 «data».now)) }
-{
-    let rate = S::rate_bytes();
-    let mut left = data.len();
-    for block in data.chunks(rate) {
-        left -= block.len();
-        let last = ends & (left == 0);
-        let control = control_of(DATA, block, rate, last);
-        step::<B, S>(state, block, control);
+impl<const B: usize, S: Suite<B>> Duplex<B, S> {
+    fn new(key: &[u8; 16], nonce: &[u8; 16]) -> Self
+        ensures { result.state ≡ start S.Bijection.meaning S.SuiteModel.plan key.now nonce.now }
+    {
+        Duplex {
+            state: S::start(key, nonce),
+            suite: PhantomData,
+        }
     }
-}
 
-// A block of n bytes xored with the rate places.
-fn xor_first<const B: usize, S: Suite<B>>(state: &[u8; B], block: &[u8], out: &mut [u8], n: usize)
-    requires fits { length block.now ≤ S.SuiteModel.plan.rate }
-    requires room { length out.old ≡ length block.now }
-    requires all { n ≡ length block.now }
-    ensures { out.new ≡ xors block.now (pick S.SuiteModel.plan.rate_places state.now) }
-{
-    S::sized();
-    let places = S::rate_places();
-    for i in 0..n {
-        out[i] = block[i] ^ state[places[i]];
+    pub(crate) fn forward(&mut self)
+        ensures { self.new.state ≡ S.Bijection.meaning.forward self.old.state }
+    {
+        S::forward(&mut self.state);
     }
-}
 
-// A block xored with the rate places; of a full one the compiler knows the length.
-fn xor_rate<const B: usize, S: Suite<B>>(state: &[u8; B], block: &[u8], out: &mut [u8])
-    requires fits { length block.now ≤ S.SuiteModel.plan.rate }
-    requires room { length out.old ≡ length block.now }
-    ensures { out.new ≡ xors block.now (pick S.SuiteModel.plan.rate_places state.now) }
-{
-    let rate = S::rate_bytes();
-    if block.len() == rate {
-        xor_first::<B, S>(state, block, out, rate);
-    } else {
-        xor_first::<B, S>(state, block, out, block.len());
+    // As many bytes as there are masked places, xored into these.
+    fn mask_in(&mut self, bytes: &[u8])
+        requires { length bytes.now ≡ S.SuiteModel.plan.rate }
+        ensures { self.new.state ≡ xors self.old.state (put S.SuiteModel.plan.masked_places bytes.now (zero_mask S.Bijection.meaning)) }
+    {
+        for (place, byte) in S::masked_places().iter().zip(bytes) {
+            self.state[*place] ^= *byte;
+        }
     }
-}
 
-// A block of the message is turned into its ciphertext block, and goes in.
-fn seal_block<const B: usize, S: Suite<B>>(
-    state: &mut [u8; B],
-    plain: &[u8],
-    out: &mut [u8],
-    control: u8,
-)
-    requires fits { length plain.now ≤ S.SuiteModel.plan.rate }
-    requires room { length out.old ≡ length plain.now }
-    ensures out { out.new ≡ xors plain.now (pick S.SuiteModel.plan.rate_places state.old) }
-    ensures state { state.new ≡ S.Bijection.meaning.forward (xors state.old (mask_with S.Bijection.meaning S.SuiteModel.plan control plain.now)) }
-{
-    xor_rate::<B, S>(state, plain, out);
-    step::<B, S>(state, plain, control);
-}
-
-// Each block of the message goes in, and its ciphertext to the front of `out`.
-pub(crate) fn seal_blocks<const B: usize, S: Suite<B>>(
-    state: &mut [u8; B],
-    message: &[u8],
-    out: &mut [u8],
-)
-    requires { length message.now ≤ length out.old }
-    ensures state { state.new ≡ run S.Bijection.meaning state.old (ended S.SuiteModel.plan (masks S.Bijection.meaning S.SuiteModel.plan 0x40 message.now)) }
-    ensures out { out.new ≡ ciphers S.Bijection.meaning S.SuiteModel.plan state.old (blocks S.SuiteModel.plan.rate message.now) (ended S.SuiteModel.plan (masks S.Bijection.meaning S.SuiteModel.plan 0x40 message.now)) ++ drop (length message.now) out.old }
-{
-    let rate = S::rate_bytes();
-    let mut left = message.len();
-    let mut at = 0;
-    for block in message.chunks(rate) {
-        let end = at + block.len();
-        left -= block.len();
-        let control = control_of(MESSAGE, block, rate, left == 0);
-        seal_block::<B, S>(state, block, &mut out[at..end], control);
-        at = end;
+    // A block, padded if it is short, xored into the masked places. All that a block goes through is inlined: the compiler
+    // then knows in each loop whether the block is full, and which way it goes.
+    #[inline(always)]
+    fn mask_block(&mut self, block: &[u8])
+        requires { length block.now ≤ S.SuiteModel.plan.rate }
+        ensures { self.new.state ≡ xors self.old.state (put S.SuiteModel.plan.masked_places (padded S.SuiteModel.plan.rate block.now) (zero_mask S.Bijection.meaning)) }
+    {
+        if block.len() < S::RATE {
+            self.mask_in(&padded_block(block)[..S::RATE]);
+        } else {
+            self.mask_in(&full_block(block, S::RATE)[..S::RATE]);
+        }
     }
-}
 
-// A block of the ciphertext is turned into its message block, and that goes in.
-fn open_block<const B: usize, S: Suite<B>>(
-    state: &mut [u8; B],
-    cipher: &[u8],
-    out: &mut [u8],
-    control: u8,
-)
-    requires fits { length cipher.now ≤ S.SuiteModel.plan.rate }
-    requires room { length out.old ≡ length cipher.now }
-    ensures out { out.new ≡ xors cipher.now (pick S.SuiteModel.plan.rate_places state.old) }
-    ensures state { state.new ≡ S.Bijection.meaning.forward (xors state.old (mask_with S.Bijection.meaning S.SuiteModel.plan control (xors cipher.now (pick S.SuiteModel.plan.rate_places state.old)))) }
-{
-    xor_rate::<B, S>(state, cipher, out);
-    step::<B, S>(state, out, control);
-}
-
-// Each block of the ciphertext is turned into its message block, at the front of `out`, and that goes in.
-pub(crate) fn open_blocks<const B: usize, S: Suite<B>>(
-    state: &mut [u8; B],
-    ciphertext: &[u8],
-    out: &mut [u8],
-)
-    requires { length ciphertext.now ≤ length out.old }
-    ensures state { state.new ≡ run S.Bijection.meaning state.old (opened_masks S.Bijection.meaning S.SuiteModel.plan state.old ciphertext.now) }
-    ensures out { out.new ≡ flat_map (λ x. x) (plains S.Bijection.meaning S.SuiteModel.plan state.old (blocks S.SuiteModel.plan.rate ciphertext.now)) ++ drop (length ciphertext.now) out.old }
-{
-    let rate = S::rate_bytes();
-    let mut left = ciphertext.len();
-    let mut at = 0;
-    for block in ciphertext.chunks(rate) {
-        let end = at + block.len();
-        left -= block.len();
-        let control = control_of(MESSAGE, block, rate, left == 0);
-        open_block::<B, S>(state, block, &mut out[at..end], control);
-        at = end;
+    // A byte xored into the first rate place.
+    fn control_in(&mut self, control: u8)
+        ensures { self.new.state ≡ slice_set self.old.state (control_place S.SuiteModel.plan) (bit_xor (slice_index self.old.state (control_place S.SuiteModel.plan)) control) }
+    {
+        let place = S::rate_places()[0];
+        self.state[place] ^= control;
     }
-}
 
-// The masked places of the end state.
-pub(crate) fn write_tag<const B: usize, S: Suite<B>>(state: &[u8; B], tag: &mut [u8])
-    requires { length tag.old ≡ S.SuiteModel.plan.rate }
-    ensures { tag.new ≡ pick S.SuiteModel.plan.masked_places state.now }
-{
-    S::sized();
-    let places = S::masked_places();
-    for i in 0..places.len() {
-        tag[i] = state[places[i]];
+    // A block's mask xored into the state.
+    #[inline(always)]
+    fn absorb(&mut self, block: &[u8], control: u8)
+        requires { length block.now ≤ S.SuiteModel.plan.rate }
+        ensures { self.new.state ≡ xors self.old.state (mask_with S.Bijection.meaning S.SuiteModel.plan control block.now) }
+    {
+        self.mask_block(block);
+        self.control_in(control);
     }
-}
 
-// Whether the tag is that of the end state; every byte is compared, wherever the first difference is.
-pub(crate) fn tag_agrees<const B: usize, S: Suite<B>>(state: &[u8; B], tag: &[u8]) -> bool
-    requires { length tag.now ≡ S.SuiteModel.plan.rate }
-    ensures { result ≡ bytes_eq (pick S.SuiteModel.plan.masked_places state.now) tag.now }
-{
-    S::sized();
-    let places = S::masked_places();
-    let mut difference = 0u8;
-    for i in 0..places.len() {
-        difference |= state[places[i]] ^ tag[i];
+    // A block's mask goes in, and forward follows.
+    #[inline(always)]
+    fn step(&mut self, block: &[u8], control: u8)
+        requires { length block.now ≤ S.SuiteModel.plan.rate }
+        ensures { self.new.state ≡ S.Bijection.meaning.forward (xors self.old.state (mask_with S.Bijection.meaning S.SuiteModel.plan control block.now)) }
+    {
+        self.absorb(block, control);
+        self.forward();
     }
-    difference == 0
+
+    // The zero mask goes in, and forward follows; `ends` says whether it is the only mask.
+    fn first_step(&mut self, ends: bool)
+        ensures { self.new.state ≡ S.Bijection.meaning.forward (xors self.old.state (first_mask S.Bijection.meaning S.SuiteModel.plan ends)) }
+    {
+        self.control_in(flag_of(ends));
+        self.forward();
+    }
+
+    // Each block of the data goes in; `ends` says whether the last of them is the last of the feed.
+    fn absorb_data(&mut self, data: &[u8], ends: bool)
+        ensures { self.new.state ≡ run S.Bijection.meaning self.old.state (ended_if ends S.SuiteModel.plan (masks S.Bijection.meaning S.SuiteModel.plan 0x20 «data».now)) }
+    {
+        for at in (0..data.len()).step_by(S::RATE) {
+            let end = data.len().min(at + S::RATE);
+            let control = control_of(DATA, &data[at..end], S::RATE, ends & (end == data.len()));
+            self.step(&data[at..end], control);
+        }
+    }
+
+    // The state before the message, or its ciphertext: the zero mask and the data are in.
+    pub(crate) fn at_message(key: &[u8; 16], nonce: &[u8; 16], data: &[u8], message: &[u8]) -> Self
+        ensures { result.state ≡ at_message S.Bijection.meaning S.SuiteModel.plan (start S.Bijection.meaning S.SuiteModel.plan key.now nonce.now) «data».now message.now }
+    {
+        let mut duplex = Self::new(key, nonce);
+        duplex.first_step(data.is_empty() & message.is_empty());
+        duplex.absorb_data(data, message.is_empty());
+        duplex
+    }
+
+    // A block xored with as many places. Written by index: what goes through an iter_mut in a zip is lost to a proof.
+    fn xor_places(&self, places: &[usize], block: &[u8], out: &mut [u8])
+        requires inside { (i : ℕ) → i < length places.now → slice_index places.now i < B }
+        requires all { length places.now ≡ length block.now }
+        requires room { length out.old ≡ length block.now }
+        ensures { out.new ≡ xors block.now (pick places.now self.now.state) }
+    {
+        for (i, place) in places.iter().enumerate() {
+            out[i] = block[i] ^ self.state[*place];
+        }
+    }
+
+    // A short block xored with the rate places: only the last can be, so it is kept out of the loop's code.
+    #[inline(never)]
+    fn xor_short(&self, block: &[u8], out: &mut [u8])
+        requires fits { length block.now ≤ S.SuiteModel.plan.rate }
+        requires room { length out.old ≡ length block.now }
+        ensures { out.new ≡ xors block.now (pick S.SuiteModel.plan.rate_places self.now.state) }
+    {
+        self.xor_places(&S::rate_places()[..block.len()], block, out);
+    }
+
+    // A block xored with the rate places; of a full one the compiler knows the length.
+    #[inline(always)]
+    fn xor_rate(&self, block: &[u8], out: &mut [u8])
+        requires fits { length block.now ≤ S.SuiteModel.plan.rate }
+        requires room { length out.old ≡ length block.now }
+        ensures { out.new ≡ xors block.now (pick S.SuiteModel.plan.rate_places self.now.state) }
+    {
+        let places = S::rate_places();
+        if block.len() == places.len() {
+            self.xor_places(places, block, out);
+        } else {
+            self.xor_short(block, out);
+        }
+    }
+
+    // A block is turned into what comes out for it, and the mask of the message's block goes in.
+    #[inline(always)]
+    fn crypt_block(&mut self, way: Way, block: &[u8], out: &mut [u8], control: u8)
+        requires fits { length block.now ≤ S.SuiteModel.plan.rate }
+        requires room { length out.old ≡ length block.now }
+        ensures out { out.new ≡ xors block.now (pick S.SuiteModel.plan.rate_places self.old.state) }
+        ensures state { self.new.state ≡ S.Bijection.meaning.forward (xors self.old.state (mask_with S.Bijection.meaning S.SuiteModel.plan control (plain_of way block.now (xors block.now (pick S.SuiteModel.plan.rate_places self.old.state))))) }
+    {
+        self.xor_rate(block, out);
+        match way {
+            Way::Seal => self.step(block, control),
+            Way::Open => self.step(out, control),
+        }
+    }
+
+    // Each block of a message or a ciphertext goes that way, and what comes out for it to the front of `out`.
+    #[inline(always)]
+    pub(crate) fn crypt(&mut self, way: Way, input: &[u8], out: &mut [u8])
+        requires { length input.now ≤ length out.old }
+        ensures state { self.new.state ≡ run S.Bijection.meaning self.old.state (masks_of way S.Bijection.meaning S.SuiteModel.plan self.old.state input.now) }
+        ensures out { out.new ≡ output_of way S.Bijection.meaning S.SuiteModel.plan self.old.state input.now ++ drop (length input.now) out.old }
+    {
+        for at in (0..input.len()).step_by(S::RATE) {
+            let end = input.len().min(at + S::RATE);
+            let block = &input[at..end];
+            let control = control_of(MESSAGE, block, S::RATE, end == input.len());
+            self.crypt_block(way, block, &mut out[at..end], control);
+        }
+    }
+
+    // The masked places of the end state, written by index as in xor_places.
+    pub(crate) fn write_tag(&self, tag: &mut [u8])
+        requires { length tag.old ≡ S.SuiteModel.plan.rate }
+        ensures { tag.new ≡ pick S.SuiteModel.plan.masked_places self.now.state }
+    {
+        for (i, place) in S::masked_places().iter().enumerate() {
+            tag[i] = self.state[*place];
+        }
+    }
+
+    // Whether the tag is that of the end state; every byte is compared, wherever the first difference is.
+    pub(crate) fn tag_agrees(&self, tag: &[u8]) -> bool
+        requires { length tag.now ≡ S.SuiteModel.plan.rate }
+        ensures { result ≡ bytes_eq (pick S.SuiteModel.plan.masked_places self.now.state) tag.now }
+    {
+        let mut difference = 0u8;
+        for (place, byte) in S::masked_places().iter().zip(tag) {
+            difference |= self.state[*place] ^ *byte;
+        }
+        difference == 0
+    }
 }

@@ -41,8 +41,8 @@ pub(crate) fn store_subblocks(subblocks: [u64; 4], width: usize, state: &mut [u8
     requires { (width ≤ 8) × (length state.old ≡ width * 4) }
     ensures { state.new ≡ stores width subblocks }
 {
-    for i in 0..4usize {
-        store_last(subblocks[i], &mut state[i * width..i * width + width]);
+    for (i, subblock) in subblocks.iter().enumerate() {
+        store_last(*subblock, &mut state[i * width..i * width + width]);
     }
 }
 

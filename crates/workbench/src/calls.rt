@@ -107,11 +107,11 @@ fn call_version(heap: Global, call: CipherCall, mut words: Words) -> Result<Stri
     ensures { Holds string_bytes result (version_asked call (left words.entry)) }
 {
     let version = read_number(words.next_word()?)?;
-    if version == u64::from(Spoc64::version_number()) {
+    if version == u64::from(<Spoc64 as Suite<24>>::VERSION) {
         call_cipher::<24, Spoc64>(heap, call, words)
-    } else if version == u64::from(Spoc128::version_number()) {
+    } else if version == u64::from(<Spoc128 as Suite<32>>::VERSION) {
         call_cipher::<32, Spoc128>(heap, call, words)
-    } else if version == u64::from(Bench::version_number()) {
+    } else if version == u64::from(<Bench as Suite<32>>::VERSION) {
         call_cipher::<32, Bench>(heap, call, words)
     } else {
         Err(Unread::UnknownVersion)

@@ -162,7 +162,7 @@ fn call_seal<const B: usize, S: Suite<B>>(heap: Global, mut words: Words) -> Res
 {
     let given = read_given(heap, &mut words)?;
     words.finish()?;
-    let run = run_seal::<B, S>(heap, &given, given.text.len(), S::rate_bytes())?;
+    let run = run_seal::<B, S>(heap, &given, given.text.len(), S::RATE)?;
     Ok(show_sealed(heap, &run)?)
 }
 

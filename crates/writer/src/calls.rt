@@ -47,14 +47,14 @@ impl<const B: usize, S: Suite<B> + Drop> Writer<B, S> {
             };
             return Err(CardFault::Record(RecordFault::Seal(fault)));
         };
-        if medium.len() < HEADER_BYTES + HEAD_BYTES + S::rate_bytes() {
+        if medium.len() < HEADER_BYTES + HEAD_BYTES + S::RATE {
             return Err(CardFault::Own {
                 no: CardNo::MediumShort,
                 record: 0,
                 place: 0,
             });
         }
-        let header = make_header(S::version_number(), number);
+        let header = make_header(S::VERSION, number);
         put_header(&header, medium);
         Ok(Writer {
             suite: PhantomData,
@@ -77,7 +77,7 @@ impl<const B: usize, S: Suite<B> + Drop> Writer<B, S> {
     {
         let n = self.count;
         let place = self.place;
-        let rate = S::rate_bytes();
+        let rate = S::RATE;
         if n >= MOST_SHEETS {
             return Err(refused(RecordNo::SheetsFull, n, place));
         }
@@ -110,7 +110,7 @@ impl<const B: usize, S: Suite<B> + Drop> Writer<B, S> {
     {
         let n = self.count;
         let place = self.place;
-        let size = HEAD_BYTES + S::rate_bytes();
+        let size = HEAD_BYTES + S::RATE;
         if medium.len() < place + size {
             let fault = CardFault::Own {
                 no: CardNo::MediumShort,

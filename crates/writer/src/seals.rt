@@ -44,7 +44,7 @@ fn seal_into<const B: usize, S: Suite<B>>(
 {
     let n = body.len();
     let mut room = [0; 16];
-    let tag = &mut room[0..S::rate_bytes()];
+    let tag = &mut room[0..S::RATE];
     seal_apart::<B, S>(key, nonce, data, body, &mut out[0..n], tag);
     put(n, tag, out);
 }
@@ -65,7 +65,7 @@ pub(crate) fn put_sealed<const B: usize, S: Suite<B>>(
     let data = record_data(header, head);
     let nonce = record_nonce(header, n);
     let start = place + HEAD_BYTES;
-    let size = body.len() + S::rate_bytes();
+    let size = body.len() + S::RATE;
     put(place, head, medium);
     seal_into::<B, S>(key, &nonce, &data, body, &mut medium[start..start + size]);
 }

@@ -1,9 +1,8 @@
-use Rattle.std.proofs.Common.{◌≡◌, ◌-◌, ◌++◌, length, drop, set, replicate, ◌∙◌, ap₂, arith}
+use Rattle.std.proofs.Common.{length, drop, set, replicate, ◌++◌, ◌∙◌, ap, arith}
 use Rattle.spoc.proofs.Masks.{pad_made}
 use Rattle.spoc.proofs.mode.padded_block.Goals as goal
 
 pub returns : goal.returns
 returns c =
     let x = c.args.block.now in
-    let n : length x - 0 ≡ length x = omega arith in
-    ap₂ (λ y k. set (y ++ drop k (replicate 16 0)) (length x) 128) c.copy_from_slice.ensures.after n ∙ pad_made 16 16 x c.requires (omega arith)
+    ap (λ y. set (y ++ drop (length x) (replicate 16 0)) (length x) 128) c.copy_from_slice.ensures.after ∙ pad_made 16 16 x c.requires (omega arith)

@@ -1,19 +1,20 @@
-use Rattle.std.proofs.Common.{◌≡◌, length, sym, ◌∙◌, rules}
-use Rattle.spoc.proofs.Questions.{lengths_fit, mismatched}
+use Rattle.std.proofs.Common.{◌≡◌, ◌++◌, length, drop, replicate, sym, ap, ◌∙◌, rules}
+use Rattle.spoc.proofs.Questions.{agreed, mismatched}
 use Rattle.spoc.proofs.sealing.open.Goals as goal
 
-pub open_accepted-requires : goal.open_accepted-requires
-open_accepted-requires g c =
-    let fit = lengths_fit c.rate_bytes.result c.args.data.now c.args.ciphertext.now c.args.out.now c.args.tag.now (sym c.lengths_fault.ensures ∙ c.in_default-lengths_fault.is) in
-    record { room = fit.0; rate = fit.1 ∙ c.rate_bytes.ensures }
+pub returns-then-tag_agrees : goal.returns-then-tag_agrees
+returns-then-tag_agrees g c =
+    let asked = c.in_ok-key.ensures in
+    let is = agreed g.S.Bijection.meaning g.S.SuiteModel.plan c.args.key.now c.args.nonce.now c.args.data.now c.args.ciphertext.now c.args.out.now c.args.tag.now
+    c.in_ok-key.key.now c.in_ok-key.nonce.now c.at_message-duplex.result.state c.crypt.new.self.state c.crypt.new.out c.RATE.result
+    (c.RATE.ensures ∙ g.met.S.Suite.rate_is) asked.0 asked.1 asked.2 c.at_message-duplex.ensures g.met.S.SuiteModel.sound c.tag_agrees.result c.crypt.ensures.state c.crypt.ensures.out c.tag_agrees.ensures c.if-tag_agrees.true in
+    record { answer = sym (ap (λ z. z.answer) is); out = sym (ap (λ z. z.out) is) }
 
 pub returns : goal.returns
 returns g c =
-    let none = sym c.lengths_fault.ensures ∙ c.in_default-lengths_fault.is in
-    let lk : length c.args.key.now ≡ 16 = search rules in
-    let ln : length c.args.nonce.now ≡ 16 = search rules in
-    let ek : c.in-Ok.key.now ≡ c.args.key.now = search rules in
-    let en : c.in-Ok-try_from.nonce.now ≡ c.args.nonce.now = search rules in
-    let f = mismatched g.S.Bijection.meaning g.S.SuiteModel.plan g.met.S.SuiteModel.sound c.args.key.now c.args.nonce.now c.args.data.now c.args.ciphertext.now c.args.out.now c.args.tag.now
-    c.in-Ok.key.now c.in-Ok-try_from.nonce.now c.open_accepted.new.out c.open_accepted.result lk ln ek en (rw c.rate_bytes.ensures at none) c.open_accepted.ensures.answer c.if-open_accepted.false c.open_accepted.ensures.out in
-    record { answer = sym f.0; out = c.wipe.ensures ∙ sym f.1 }
+    let asked = c.in_ok-key.ensures in
+    let is = mismatched g.S.Bijection.meaning g.S.SuiteModel.plan c.args.key.now c.args.nonce.now c.args.data.now c.args.ciphertext.now c.args.out.now c.args.tag.now
+    c.in_ok-key.key.now c.in_ok-key.nonce.now c.at_message-duplex.result.state c.crypt.new.self.state c.crypt.new.out c.RATE.result
+    (c.RATE.ensures ∙ g.met.S.Suite.rate_is) asked.0 asked.1 asked.2 c.at_message-duplex.ensures g.met.S.SuiteModel.sound c.tag_agrees.result c.crypt.ensures.state c.crypt.ensures.out c.tag_agrees.ensures c.if-tag_agrees.false in
+    let zeros : c.fill.new.self ≡ replicate (length c.args.ciphertext.now) 0 = search rules in
+    record { answer = sym (ap (λ z. z.answer) is); out = ap (λ z. z ++ drop (length c.args.ciphertext.now) c.crypt.new.out) zeros ∙ sym (ap (λ z. z.out) is) }
