@@ -1,7 +1,7 @@
 -- One call after another of a run.
-use Rattle.std.proofs.Common.{◌≡◌, ℕ, zero, suc, ◌+◌, ◌<◌, min, List, [], ◌∷◌, ◌++◌, map, length, get_or, take, drop, set, Err, Result, sym, refl, ap, ◌∙◌, subst, ⊎_elim, add-one, arith, Bor}
+use Rattle.std.proofs.Common.{◌≡◌, ℕ, ◌+◌, ◌<◌, min, List, [], ◌∷◌, ◌++◌, map, length, get_or, take, drop, set, Err, Result, sym, ap, ◌∙◌, subst, ⊎_elim, arith, Bor}
 use Rattle.std.proofs.str.Laws.{order}
-use Rattle.std.proofs.lemmas.List.{append_assoc, drop-drop, drop_more, map-append, take_all}
+use Rattle.std.proofs.lemmas.List.{append_assoc, drop-drop, drop-set-lt, drop_more, map-append, take_all}
 use Rattle.spoc.specs.Sealing.{Sealing}
 use Rattle.cards.specs.Faults.{Fault, told, of_card}
 use Rattle.cards.specs.Format.{Sheet, a_sheet}
@@ -102,14 +102,7 @@ part_is xs a k e =
 pub called : (xs ys : List Call) (i : ℕ) (d x : Call) → xs ≡ ys → get_or xs i d ≡ x → get_or ys i d ≡ x
 called xs ys i d x e h = subst (λ (z : List Call). get_or z i d ≡ x) e h
 
-drop_suc_set : {X : Type 0} (xs : List X) (i : ℕ) (y : X) → drop (suc i) (set xs i y) ≡ drop (suc i) xs
-drop_suc_set [] i y = refl
-drop_suc_set (x ∷ xs) zero y = refl
-drop_suc_set (x ∷ xs) (suc i) y = drop_suc_set xs i y
-
 -- the slots after one that is written stay
 pub others_stay : {X : Type 0} (xs ys zs : List X) (i : ℕ) (y : X) → ys ≡ set xs i y → drop i xs ≡ drop i zs → drop (i + 1) ys ≡ drop (i + 1) zs
 others_stay xs ys zs i y e h =
-    ap (drop (i + 1)) e
-    ∙ ap (λ n. drop n (set xs i y)) (add-one i) ∙ drop_suc_set xs i y ∙ ap (λ n. drop n xs) (sym (add-one i))
-    ∙ sym (drop-drop 1 i xs) ∙ ap (drop 1) h ∙ drop-drop 1 i zs
+    ap (drop (i + 1)) e ∙ drop-set-lt (i + 1) xs i y (omega arith) ∙ sym (drop-drop 1 i xs) ∙ ap (drop 1) h ∙ drop-drop 1 i zs

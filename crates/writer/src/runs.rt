@@ -37,6 +37,7 @@ pub fn replay<const B: usize, S: Suite<B> + Drop>(
 {
     let count = calls.len().min(answers.len());
     let mut open = writer;
+    // Over zip(answers.iter_mut()) a proof knows nothing of what the loop wrote, so each slot is written by its number.
     for (i, call) in calls[..count].iter().enumerate() {
         let answer = match *call {
             Call::Append {
