@@ -13,16 +13,14 @@ pub fn find(card: &Card<'_>, cell: u32) -> Option<usize>
     ensures finds { Finds (shown card.now) cell result }
     ensures tells { (S : Sealing) → FindTells S }
 {
-    let mut best = None;
-    let mut top = 0;
+    let mut best: Option<(usize, u16)> = None;
     let mut rest = Rest::records(card.bytes);
     for i in 0..card.count {
         let head = rest.head();
-        if head.cell == cell && (best.is_none() || head.edition > top) {
-            best = Some(i);
-            top = head.edition;
+        if head.cell == cell && best.is_none_or(|(_, top)| head.edition > top) {
+            best = Some((i, head.edition));
         }
         rest = rest.after(HEAD_BYTES + head.length + card.rate);
     }
-    best
+    best.map(|(i, _)| i)
 }
