@@ -1,6 +1,8 @@
 // Tests of writer and reader at the limits: the lengths of media, bodies, scratch and buffers, the number of sheets, the order of questions, and the bytes that stay.
 #![tactic(auto)]
 
+ghost use Rattle.std.specs.Prelude.{◌<◌, ◌≤◌};
+
 #[cfg(test)]
 mod tests {
     use cards::CardFault;
@@ -58,27 +60,29 @@ mod tests {
         writer: Writer<B, S>,
         medium: &mut [u8],
     ) -> Result<usize, CardFault> {
-        match writer.close(medium) {
-            Ok(length) => Ok(length),
-            Err(unclosed) => Err(unclosed.fault),
-        }
+        Ok(writer.close(medium)?)
+    }
+
+    // The fewest bytes of a medium on which a card starts, and those on which it then takes a body of one byte.
+    fn shortest<const B: usize, S: Suite<B> + Drop>(
+        rt: &impl Abort,
+        start: usize,
+        append: usize,
+    ) -> Result<(), Fail>
+        requires { (0 < start) × (start ≤ 64) × (0 < append) × (append ≤ 64) }
+    {
+        refused(rt, start_on::<B, S>(&mut [7; 64][..start - 1]), (9, 3, 0, 0))?;
+        assert_eq!(rt; start_on::<B, S>(&mut [7; 64][..start]), Ok(()));
+        refused(rt, append_on::<B, S>(&mut [7; 64][..append - 1]), (9, 2, 0, 13))?;
+        assert_eq!(rt; append_on::<B, S>(&mut [7; 64][..append]), Ok(0));
+        Ok(())
     }
 
     #[test]
     fn shortest_media(rt: HostRuntime) -> Result<(), Fail> {
-        refused(&rt, start_on::<24, Spoc64>(&mut [7; 29]), (9, 3, 0, 0))?;
-        refused(&rt, start_on::<32, Spoc128>(&mut [7; 37]), (9, 3, 0, 0))?;
-        refused(&rt, start_on::<32, Bench>(&mut [7; 29]), (9, 3, 0, 0))?;
-        assert_eq!(rt; start_on::<24, Spoc64>(&mut [7; 30]), Ok(()));
-        assert_eq!(rt; start_on::<32, Spoc128>(&mut [7; 38]), Ok(()));
-        assert_eq!(rt; start_on::<32, Bench>(&mut [7; 30]), Ok(()));
-        refused(&rt, append_on::<24, Spoc64>(&mut [7; 47]), (9, 2, 0, 13))?;
-        refused(&rt, append_on::<32, Spoc128>(&mut [7; 63]), (9, 2, 0, 13))?;
-        refused(&rt, append_on::<32, Bench>(&mut [7; 47]), (9, 2, 0, 13))?;
-        assert_eq!(rt; append_on::<24, Spoc64>(&mut [7; 48]), Ok(0));
-        assert_eq!(rt; append_on::<32, Spoc128>(&mut [7; 64]), Ok(0));
-        assert_eq!(rt; append_on::<32, Bench>(&mut [7; 48]), Ok(0));
-        Ok(())
+        shortest::<24, Spoc64>(&rt, 30, 48)?;
+        shortest::<32, Spoc128>(&rt, 38, 64)?;
+        shortest::<32, Bench>(&rt, 30, 48)
     }
 
     #[test]
@@ -176,10 +180,16 @@ mod tests {
         let mut changed = *BARE;
         changed[29] = 3;
         assert_eq!(rt; check_of(card), Ok(0));
-        refused(&rt, check_of(&[]), (10, 3, 0, 0))?;
-        refused(&rt, check_of(&card[0..29]), (10, 2, 0, 22))?;
-        refused(&rt, check_of(&more), (15, 3, 0, 30))?;
-        refused(&rt, check_of(&changed), (6, 1, 0, 22))
+        let rows: [(&[u8], (u8, u8, usize, usize)); 4] = [
+            (&[], (10, 3, 0, 0)),
+            (&card[0..29], (10, 2, 0, 22)),
+            (&more, (15, 3, 0, 30)),
+            (&changed, (6, 1, 0, 22)),
+        ];
+        for (bytes, says) in &rows {
+            refused(&rt, check_of(bytes), *says)?;
+        }
+        Ok(())
     }
 
     #[test]

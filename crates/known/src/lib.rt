@@ -22,8 +22,5 @@ pub fn bench_card(medium: &mut [u8]) -> Result<usize, CardFault>
     ensures known { KnownBytes }
 {
     let writer = Writer::<32, Bench>::start(&KEY, NUMBER, medium)?;
-    match writer.close(medium) {
-        Ok(length) => Ok(length),
-        Err(unclosed) => Err(unclosed.fault),
-    }
+    Ok(writer.close(medium)?)
 }

@@ -18,11 +18,11 @@ returns-in_err-writer c =
       known = known_bytes;
     }
 
-pub returns-in-Ok : goal.returns-in-Ok
-returns-in-Ok c =
+pub returns : goal.returns
+returns c =
     let m : List ℕ = c.args.medium.now in
     let yes = start_accepted (leb 30 (length m)) c.in_ok-writer.writer c.start.new.medium m c.in_ok-writer.ensures.answer in
-    let end = c.in-Ok.ensures.plain (writer m) yes.1 in
+    let end = c.in_ok-close.ensures.plain (writer m) yes.1 in
     let e = close_is m (leb-true 30 (length m) yes.0) in
     record {
       answer = end.0 ∙ e ∙ ap (λ t. cond t (Ok 30) (Err (fault 9 3 0 0))) (sym yes.0);
@@ -31,11 +31,11 @@ returns-in-Ok c =
     }
 
 -- a close after an accepted start is never refused
-pub returns-in-Err : goal.returns-in-Err
-returns-in-Err c =
+pub returns-in_err-close : goal.returns-in_err-close
+returns-in_err-close c =
     let m : List ℕ = c.args.medium.now in
     let yes = start_accepted (leb 30 (length m)) c.in_ok-writer.writer c.start.new.medium m c.in_ok-writer.ensures.answer in
-    let end = c.in-Err.ensures.plain (writer m) yes.1 in
+    let end = c.in_err-close.ensures.plain (writer m) yes.1 in
     let e = close_is m (leb-true 30 (length m) yes.0) in
     let no' : ◌≡◌ {A = ℕ} 0 1 = let x = end.0 in cc in
     absurd (omega arith)
