@@ -3,6 +3,7 @@ pub mod Claims
 pub mod Fault
 pub mod Feed
 pub mod Known
+pub mod Name
 pub mod Seal
 pub mod Sealing
 pub mod Spoc128

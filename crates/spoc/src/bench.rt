@@ -1,3 +1,4 @@
+ghost use Rattle.std.specs.Prelude.{refl};
 ghost use Rattle.spoc.specs.Bench.{bench_plan};
 ghost use Rattle.spoc.specs.Starts.{bench_sound};
 
@@ -21,13 +22,9 @@ impl Suite<32> for Bench {
 
     const RATE: usize = 8;
 
-    fn version_number() -> u16 {
-        Self::VERSION
-    }
+    ghost VERSION = { bench_plan.version };
 
-    fn rate_bytes() -> usize {
-        Self::RATE
-    }
+    ghost RATE = { bench_plan.rate };
 
     fn rate_places() -> &'static [usize] {
         &RATE_PLACES
@@ -44,4 +41,10 @@ impl Suite<32> for Bench {
         store_subblocks([k.first, k.second, n.first, n.second], 8, &mut state);
         state
     }
+
+    ghost version_is = { refl };
+
+    ghost rate_is = { refl };
+
+    ghost wide = { refl };
 }

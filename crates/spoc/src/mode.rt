@@ -69,7 +69,7 @@ fn mask_block<const B: usize, S: Suite<B>>(state: &mut [u8; B], block: &[u8])
     requires { length block.now ≤ S.SuiteModel.plan.rate }
     ensures { state.new ≡ xors state.old (put S.SuiteModel.plan.masked_places (padded S.SuiteModel.plan.rate block.now) (zero_mask S.Bijection.meaning)) }
 {
-    let rate = S::rate_bytes();
+    let rate = S::RATE;
     if block.len() < rate {
         let bytes = padded_block(block);
         mask_in::<B, S>(state, &bytes[0..rate]);
@@ -132,7 +132,7 @@ pub(crate) fn first_step<const B: usize, S: Suite<B>>(start: &mut [u8; B], ends:
 pub(crate) fn absorb_data<const B: usize, S: Suite<B>>(state: &mut [u8; B], data: &[u8], ends: bool)
     ensures { state.new ≡ run S.Bijection.meaning state.old (ended_if ends S.SuiteModel.plan (masks S.Bijection.meaning S.SuiteModel.plan 0x20 «data».now)) }
 {
-    let rate = S::rate_bytes();
+    let rate = S::RATE;
     let mut left = data.len();
     for block in data.chunks(rate) {
         left -= block.len();
@@ -162,7 +162,7 @@ fn xor_rate<const B: usize, S: Suite<B>>(state: &[u8; B], block: &[u8], out: &mu
     requires room { length out.old ≡ length block.now }
     ensures { out.new ≡ xors block.now (pick S.SuiteModel.plan.rate_places state.now) }
 {
-    let rate = S::rate_bytes();
+    let rate = S::RATE;
     if block.len() == rate {
         xor_first::<B, S>(state, block, out, rate);
     } else {
@@ -196,7 +196,7 @@ pub(crate) fn seal_blocks<const B: usize, S: Suite<B>>(
     ensures state { state.new ≡ run S.Bijection.meaning state.old (ended S.SuiteModel.plan (masks S.Bijection.meaning S.SuiteModel.plan 0x40 message.now)) }
     ensures out { out.new ≡ ciphers S.Bijection.meaning S.SuiteModel.plan state.old (blocks S.SuiteModel.plan.rate message.now) (ended S.SuiteModel.plan (masks S.Bijection.meaning S.SuiteModel.plan 0x40 message.now)) ++ drop (length message.now) out.old }
 {
-    let rate = S::rate_bytes();
+    let rate = S::RATE;
     let mut left = message.len();
     let mut at = 0;
     for block in message.chunks(rate) {
@@ -234,7 +234,7 @@ pub(crate) fn open_blocks<const B: usize, S: Suite<B>>(
     ensures state { state.new ≡ run S.Bijection.meaning state.old (opened_masks S.Bijection.meaning S.SuiteModel.plan state.old ciphertext.now) }
     ensures out { out.new ≡ flat_map (λ x. x) (plains S.Bijection.meaning S.SuiteModel.plan state.old (blocks S.SuiteModel.plan.rate ciphertext.now)) ++ drop (length ciphertext.now) out.old }
 {
-    let rate = S::rate_bytes();
+    let rate = S::RATE;
     let mut left = ciphertext.len();
     let mut at = 0;
     for block in ciphertext.chunks(rate) {

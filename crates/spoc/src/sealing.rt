@@ -79,7 +79,7 @@ pub fn seal<const B: usize, S: Suite<B>>(
     let Ok(nonce) = <&[u8; 16]>::try_from(nonce) else {
         return Err(SealFault::NonceLength);
     };
-    if let Some(fault) = lengths_fault(data, message, out, tag, S::rate_bytes()) {
+    if let Some(fault) = lengths_fault(data, message, out, tag, S::RATE) {
         return Err(fault);
     }
     seal_accepted::<B, S>(key, nonce, data, message, out, tag);
@@ -135,7 +135,7 @@ pub fn open<const B: usize, S: Suite<B>>(
     let Ok(nonce) = <&[u8; 16]>::try_from(nonce) else {
         return Err(SealFault::NonceLength);
     };
-    if let Some(fault) = lengths_fault(data, ciphertext, out, tag, S::rate_bytes()) {
+    if let Some(fault) = lengths_fault(data, ciphertext, out, tag, S::RATE) {
         return Err(fault);
     }
     if open_accepted::<B, S>(key, nonce, data, ciphertext, out, tag) {

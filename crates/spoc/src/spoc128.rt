@@ -1,3 +1,4 @@
+ghost use Rattle.std.specs.Prelude.{refl};
 ghost use Rattle.spoc.specs.Spoc128.{spoc_128};
 ghost use Rattle.spoc.specs.Starts.{sound_128};
 
@@ -25,13 +26,9 @@ impl Suite<32> for Light256 {
 
     const RATE: usize = 16;
 
-    fn version_number() -> u16 {
-        Self::VERSION
-    }
+    ghost VERSION = { spoc_128.version };
 
-    fn rate_bytes() -> usize {
-        Self::RATE
-    }
+    ghost RATE = { spoc_128.rate };
 
     fn rate_places() -> &'static [usize] {
         &RATE_PLACES
@@ -48,4 +45,10 @@ impl Suite<32> for Light256 {
         store_subblocks([n.first, k.first, n.second, k.second], 8, &mut state);
         state
     }
+
+    ghost version_is = { refl };
+
+    ghost rate_is = { refl };
+
+    ghost wide = { refl };
 }

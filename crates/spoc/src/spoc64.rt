@@ -1,4 +1,4 @@
-ghost use Rattle.std.specs.Prelude.{◌≡◌, ◌+◌, ◌*◌, ◌%◌, ◌^◌, ◌<◌, take, drop, replicate};
+ghost use Rattle.std.specs.Prelude.{◌≡◌, ◌+◌, ◌*◌, ◌%◌, ◌^◌, ◌<◌, take, drop, replicate, refl};
 ghost use Rattle.permutations.specs.Bytes.{xors};
 ghost use Rattle.spoc.specs.Feed.{put};
 ghost use Rattle.spoc.specs.Spoc64.{masked_64, loaded, spoc_64};
@@ -59,13 +59,9 @@ impl Suite<24> for Light192 {
 
     const RATE: usize = 8;
 
-    fn version_number() -> u16 {
-        Self::VERSION
-    }
+    ghost VERSION = { spoc_64.version };
 
-    fn rate_bytes() -> usize {
-        Self::RATE
-    }
+    ghost RATE = { spoc_64.rate };
 
     fn rate_places() -> &'static [usize] {
         &RATE_PLACES
@@ -81,4 +77,10 @@ impl Suite<24> for Light192 {
         mask_nonce(&mut state, nonce);
         state
     }
+
+    ghost version_is = { refl };
+
+    ghost rate_is = { refl };
+
+    ghost wide = { refl };
 }

@@ -1,4 +1,4 @@
-ghost use Rattle.std.specs.Prelude.{◌≡◌};
+ghost use Rattle.std.specs.Prelude.{◌≡◌, ℕ};
 ghost use Rattle.spoc.specs.Suite.{Plan, Sound};
 
 use permutations::{Bijection, Permutation};
@@ -16,13 +16,9 @@ pub trait Suite<const B: usize>: Permutation<B> + SuiteModel {
 
     const RATE: usize;
 
-    // The version, for generic code.
-    fn version_number() -> u16
-        ensures { result ≡ Self.SuiteModel.plan.version };
+    ghost VERSION: { ℕ };
 
-    // The rate in bytes, for generic code.
-    fn rate_bytes() -> usize
-        ensures { result ≡ Self.SuiteModel.plan.rate };
+    ghost RATE: { ℕ };
 
     // Where the state is xored into a block; the first place takes the control byte.
     fn rate_places() -> &'static [usize]
@@ -35,4 +31,25 @@ pub trait Suite<const B: usize>: Permutation<B> + SuiteModel {
     // The state that a key and a nonce start from.
     fn start(key: &[u8; 16], nonce: &[u8; 16]) -> [u8; B]
         ensures { result ≡ Self.SuiteModel.plan.begin Self.Bijection.meaning.forward key.now nonce.now };
+
+    ghost version_is: { VERSION ≡ Self.SuiteModel.plan.version };
+
+    ghost rate_is: { RATE ≡ Self.SuiteModel.plan.rate };
+
+    // A state is as long as the permutation means.
+    ghost wide: { B ≡ Self.Bijection.meaning.size };
+
+    // The version, as generic code asks for it.
+    final fn version_number() -> u16
+        ensures { result ≡ Self.SuiteModel.plan.version }
+    {
+        Self::VERSION
+    }
+
+    // The rate in bytes, as generic code asks for it.
+    final fn rate_bytes() -> usize
+        ensures { result ≡ Self.SuiteModel.plan.rate }
+    {
+        Self::RATE
+    }
 }

@@ -15,16 +15,16 @@ loop-block-preserved g c =
     let x = c.in-Some.block.now in
     let t = chunks_rest c.next.new.self in
     let rest = chunks_rest c.loop-block.block-iterator in
-    let rate = c.rate_bytes-rate.result in
+    let rate = c.RATE-rate.result in
     let size = chunks_size c.loop-block.block-iterator in
     let left = c.loop-block.left in
     let at = c.loop-block.at in
     let cb = c.control_of-control.result in
-    let gone = turn_left p q k 64 true x t rest rate size left cb c.rate_bytes-rate.ensures inv.2 inv.3 st.1.0 st.1.1 st.1.2 c.control_of-control.ensures in
-    let fits = turn_fits p q k 64 true x t rest rate size left cb c.rate_bytes-rate.ensures inv.2 inv.3 st.1.0 st.1.1 st.1.2 c.control_of-control.ensures in
-    let next = turn p q k 64 true x t rest rate size left cb c.rate_bytes-rate.ensures inv.2 inv.3 st.1.0 st.1.1 st.1.2 c.control_of-control.ensures
+    let gone = turn_left p q k 64 true x t rest rate size left cb (c.RATE-rate.ensures ∙ g.met.S.Suite.rate_is) inv.2 inv.3 st.1.0 st.1.1 st.1.2 c.control_of-control.ensures in
+    let fits = turn_fits p q k 64 true x t rest rate size left cb (c.RATE-rate.ensures ∙ g.met.S.Suite.rate_is) inv.2 inv.3 st.1.0 st.1.1 st.1.2 c.control_of-control.ensures in
+    let next = turn p q k 64 true x t rest rate size left cb (c.RATE-rate.ensures ∙ g.met.S.Suite.rate_is) inv.2 inv.3 st.1.0 st.1.1 st.1.2 c.control_of-control.ensures
     c.loop-block.state c.seal_block.new.state _ c.seal_block.ensures.state inv.5 in
-    let text = cipher_turn p q k x t rest rate size left cb c.rate_bytes-rate.ensures inv.2 inv.3 st.1.0 st.1.1 st.1.2 c.control_of-control.ensures
+    let text = cipher_turn p q k x t rest rate size left cb (c.RATE-rate.ensures ∙ g.met.S.Suite.rate_is) inv.2 inv.3 st.1.0 st.1.1 st.1.2 c.control_of-control.ensures
     c.loop-block.state c.seal_block.new.state _ c.loop-block.out c.seal_block.new.out at c.seal_block.ensures.state c.seal_block.ensures.out (search rules) inv.6 in
     let part : length c.seal_block.new.out ≡ length x = ap length c.seal_block.ensures.out ∙ length_rated p q k x c.loop-block.state fits in
     let kept = drop-put_mid at ((at + length x) - at) c.loop-block.out c.seal_block.new.out (length c.args.message.now) (omega arith) (omega arith) (omega arith) in
