@@ -1,2 +1,3 @@
 mod Runs
 mod Tracing
+mod Versions

@@ -1,11 +1,7 @@
 -- A call on bytes in memory is the call on those bytes. Assumes nothing.
-use Rattle.std.proofs.Common.{◌≡◌, ℕ, List, IfOk, Ok, Err, string_bytes, Result, String, sym, ap, ◌∙◌, ap₂}
-use Rattle.std.specs.declared.alloc.AllocError.{AllocError}
-use Rattle.std.specs.declared.alloc.Global.{Global}
-use Rattle.spoc.specs.Fault.{fault_number, fault_layer}
+use Rattle.std.proofs.Common.{◌≡◌, ℕ, List, Result}
 use Rattle.spoc.specs.Seal.{Sealed, Opened}
 use Rattle.spoc.specs.declared.SealFault.{SealFault}
-use Rattle.workbench.specs.Sealings.{refused_text, first_line}
 
 -- k to t are the arguments, and k₁ to t₁ the same as they lie in memory
 module _ {k n d m o t k₁ n₁ d₁ m₁ o₁ t₁ : List ℕ} (ek : k₁ ≡ k) (en : n₁ ≡ n) (ed : d₁ ≡ d) (em : m₁ ≡ m) (eo : o₁ ≡ o) (et : t₁ ≡ t) where
@@ -20,8 +16,3 @@ module _ {k n d m o t k₁ n₁ d₁ m₁ o₁ t₁ : List ℕ} (ek : k₁ ≡ k
     opened_same ea eout =
         let same : f k₁ n₁ d₁ m₁ o₁ t₁ ≡ f k n d m o t = cc in
         rw (ea, eout) same
-
--- the first line of a refusal
-pub refused_first : (r : Result (String Global) AllocError) (done : List ℕ) (a : Result (Unit {0}) SealFault) (e : SealFault) (n y : ℕ) → a ≡ Err e → n ≡ fault_number e → y ≡ fault_layer e → IfOk r (λ t. string_bytes t ≡ refused_text n y) → IfOk r (λ t. string_bytes t ≡ first_line done a)
-refused_first (Ok t) done a e n y ea en ey said = said ∙ ap₂ refused_text en ey ∙ sym (ap (first_line done) ea)
-refused_first (Err x) done a e n y ea en ey said = tt

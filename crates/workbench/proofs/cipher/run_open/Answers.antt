@@ -10,5 +10,5 @@ returns g c =
     let out = with_items_is c.in_ok-out.out c.open-answer.new.out (omega arith) in
     let tag : ◌≡◌ {A = List ℕ} c.args.tag.now c.args.tag.now = refl in
     opened_same c.as_slice.ensures.value c.as_slice-2.ensures.value c.as_slice-3.ensures.value c.as_slice-4.ensures.value
-    (c.as_mut_slice.ensures.value ∙ c.in_ok-out.ensures) tag
+    (c.as_mut_slice.ensures.value ∙ c.in_ok-out.ensures.items_if_clones_equal (λ y e. e)) tag
     (opened g.S.Bijection.meaning g.S.SuiteModel.plan) ran.answer (out ∙ ran.out)
