@@ -2,7 +2,6 @@ pub mod Numbers
 pub mod Heads
 pub mod Parsing
 pub mod Records
-pub mod Puts
 pub mod Walking
 pub mod Counting
 pub mod Reading

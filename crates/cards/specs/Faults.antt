@@ -1,7 +1,8 @@
 -- What a fault says: its number, its layer, the record and the place. Assumes nothing.
 use Rattle.std.specs.Prelude.{ℕ, List, ◌++◌, Ok, Err, codes, decimal, Result}
 use Rattle.spoc.specs.Fault.{fault_number, fault_layer}
-use Rattle.cards.specs.declared.fault.SealedFault.{SealedFault}
+use Rattle.spoc.specs.declared.SealFault.{SealFault}
+use Rattle.cards.specs.declared.fault.At.{At}
 use Rattle.cards.specs.declared.fault.RecordNo.{RecordNo}
 use Rattle.cards.specs.declared.fault.RecordNo.TheVariants as r
 use Rattle.cards.specs.declared.fault.RecordFault.{RecordFault}
@@ -37,22 +38,34 @@ card_number c.Version = 12
 card_number c.Left = 15
 card_number c.Number = 16
 
+-- a fault, at a record and a place
+abbrev pub at : {E : Type 0} → E → ℕ → ℕ → At E
+at f i p = record { fault = f; «record» = i; place = p }
+
 -- what each layer's fault says; each holds the one below whole
-abbrev pub of_sealed : SealedFault → Fault
+abbrev pub of_sealed : At SealFault → Fault
 of_sealed f = fault (fault_number f.fault) (fault_layer f.fault) f.«record» f.place
 
 abbrev pub of_record : RecordFault → Fault
 of_record (rf.Seal f) = of_sealed f
-of_record (rf.Own no' i p) = fault (record_number no') 2 i p
+of_record (rf.Own f) = fault (record_number f.fault) 2 f.«record» f.place
 
 abbrev pub of_card : CardFault → Fault
 of_card (cf.Record f) = of_record f
-of_card (cf.Own no' i p) = fault (card_number no') 3 i p
+of_card (cf.Own f) = fault (card_number f.fault) 3 f.«record» f.place
 
--- what an answer says
+-- what an answer says, of each layer
 abbrev pub told : {X : Type 0} → Result X CardFault → Result X Fault
 told (Ok x) = Ok x
 told (Err f) = Err (of_card f)
+
+abbrev pub recorded : {X : Type 0} → Result X RecordFault → Result X Fault
+recorded (Ok x) = Ok x
+recorded (Err f) = Err (of_record f)
+
+abbrev pub passed : {X : Type 0} → Result X (At SealFault) → Result X Fault
+passed (Ok x) = Ok x
+passed (Err f) = Err (of_sealed f)
 
 -- the first no ends a call
 abbrev pub and_then : {X Y E : Type 0} → Result X E → (X → Result Y E) → Result Y E

@@ -1,5 +1,6 @@
 pub mod Faults
 pub mod Format
+pub mod Kinds
 pub mod Plain
 pub mod Runs
 pub mod Reader

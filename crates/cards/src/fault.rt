@@ -1,18 +1,34 @@
 ghost use Rattle.std.specs.Prelude.{◌≡◌, Some};
-ghost use Rattle.cards.specs.Faults.{of_card, refused_text};
-ghost use Rattle.cards.specs.declared.fault.CardFault.TheVariants.{Record};
-ghost use Rattle.cards.specs.declared.fault.RecordFault.TheVariants.{Seal};
+ghost use Rattle.cards.specs.Faults.{at, record_number, card_number, of_card, refused_text};
+ghost use Rattle.cards.specs.declared.fault.CardFault.TheVariants as card;
+ghost use Rattle.cards.specs.declared.fault.RecordFault.TheVariants as rec;
 
 use spoc::SealFault;
+use std::error::Error;
 use std::fmt;
 
-// A fault of the cipher, at a record and a place of a card.
+// A fault, and the record and the place of a card that it is at.
 #[derive(Clone, Copy, Debug, PartialEq, Eq)]
-pub struct SealedFault {
-    pub fault: SealFault,
+pub struct At<E> {
+    pub fault: E,
     pub record: usize,
     pub place: usize,
 }
+
+impl<E> At<E> {
+    pub fn new(fault: E, record: usize, place: usize) -> At<E>
+        ensures { result ≡ at fault «record» place }
+    {
+        At {
+            fault,
+            record,
+            place,
+        }
+    }
+}
+
+// A fault of the cipher, at a record and a place of a card.
+pub type SealedFault = At<SealFault>;
 
 // What is wrong with a record.
 #[derive(Clone, Copy, Debug, PartialEq, Eq)]
@@ -31,15 +47,34 @@ pub enum RecordNo {
     End,
 }
 
+impl RecordNo {
+    // This no as the fault of a record.
+    pub fn at(self, record: usize, place: usize) -> RecordFault
+        ensures { result ≡ rec.Own (at self «record» place) }
+    {
+        RecordFault::Own(At::new(self, record, place))
+    }
+
+    // The number of the question that got it.
+    fn number(&self) -> u8
+        ensures { result ≡ record_number self.now }
+    {
+        match self {
+            RecordNo::BodyLong => 7,
+            RecordNo::SheetsFull => 8,
+            RecordNo::MediumShort => 9,
+            RecordNo::Cut => 10,
+            RecordNo::Kind => 13,
+            RecordNo::End => 14,
+        }
+    }
+}
+
 // A fault of a record, or of the cipher under it, whole.
 #[derive(Clone, Copy, Debug, PartialEq, Eq)]
 pub enum RecordFault {
     Seal(SealedFault),
-    Own {
-        no: RecordNo,
-        record: usize,
-        place: usize,
-    },
+    Own(At<RecordNo>),
 }
 
 // What is wrong with a card.
@@ -59,19 +94,38 @@ pub enum CardNo {
     Number,
 }
 
+impl CardNo {
+    // This no as the fault of a card.
+    pub fn at(self, record: usize, place: usize) -> CardFault
+        ensures { result ≡ card.Own (at self «record» place) }
+    {
+        CardFault::Own(At::new(self, record, place))
+    }
+
+    // The number of the question that got it.
+    fn number(&self) -> u8
+        ensures { result ≡ card_number self.now }
+    {
+        match self {
+            CardNo::MediumShort => 9,
+            CardNo::Cut => 10,
+            CardNo::Mark => 11,
+            CardNo::Version => 12,
+            CardNo::Left => 15,
+            CardNo::Number => 16,
+        }
+    }
+}
+
 // A fault of a card, or of a record of it, whole.
 #[derive(Clone, Copy, Debug, PartialEq, Eq)]
 pub enum CardFault {
     Record(RecordFault),
-    Own {
-        no: CardNo,
-        record: usize,
-        place: usize,
-    },
+    Own(At<CardNo>),
 }
 
 impl From<SealedFault> for RecordFault {
-    ghost from_gives = { λ f r. r ≡ Seal f };
+    ghost from_gives = { λ f r. r ≡ rec.Seal f };
 
     fn from(fault: SealedFault) -> RecordFault {
         RecordFault::Seal(fault)
@@ -79,7 +133,7 @@ impl From<SealedFault> for RecordFault {
 }
 
 impl From<RecordFault> for CardFault {
-    ghost from_gives = { λ f r. r ≡ Record f };
+    ghost from_gives = { λ f r. r ≡ card.Record f };
 
     fn from(fault: RecordFault) -> CardFault {
         CardFault::Record(fault)
@@ -92,23 +146,9 @@ impl CardFault {
         ensures { result ≡ (of_card self.now).number }
     {
         match self {
-            CardFault::Record(RecordFault::Seal(sealed)) => sealed.fault.number(),
-            CardFault::Record(RecordFault::Own { no, .. }) => match no {
-                RecordNo::BodyLong => 7,
-                RecordNo::SheetsFull => 8,
-                RecordNo::MediumShort => 9,
-                RecordNo::Cut => 10,
-                RecordNo::Kind => 13,
-                RecordNo::End => 14,
-            },
-            CardFault::Own { no, .. } => match no {
-                CardNo::MediumShort => 9,
-                CardNo::Cut => 10,
-                CardNo::Mark => 11,
-                CardNo::Version => 12,
-                CardNo::Left => 15,
-                CardNo::Number => 16,
-            },
+            CardFault::Record(RecordFault::Seal(at)) => at.fault.number(),
+            CardFault::Record(RecordFault::Own(at)) => at.fault.number(),
+            CardFault::Own(at) => at.fault.number(),
         }
     }
 
@@ -117,9 +157,9 @@ impl CardFault {
         ensures { result ≡ (of_card self.now).layer }
     {
         match self {
-            CardFault::Record(RecordFault::Seal(sealed)) => sealed.fault.layer(),
-            CardFault::Record(RecordFault::Own { .. }) => 2,
-            CardFault::Own { .. } => 3,
+            CardFault::Record(RecordFault::Seal(at)) => at.fault.layer(),
+            CardFault::Record(RecordFault::Own(_)) => 2,
+            CardFault::Own(_) => 3,
         }
     }
 
@@ -128,9 +168,9 @@ impl CardFault {
         ensures { result ≡ (of_card self.now).record_no }
     {
         match self {
-            CardFault::Record(RecordFault::Seal(sealed)) => sealed.record,
-            CardFault::Record(RecordFault::Own { record, .. }) => *record,
-            CardFault::Own { record, .. } => *record,
+            CardFault::Record(RecordFault::Seal(at)) => at.record,
+            CardFault::Record(RecordFault::Own(at)) => at.record,
+            CardFault::Own(at) => at.record,
         }
     }
 
@@ -139,9 +179,9 @@ impl CardFault {
         ensures { result ≡ (of_card self.now).place }
     {
         match self {
-            CardFault::Record(RecordFault::Seal(sealed)) => sealed.place,
-            CardFault::Record(RecordFault::Own { place, .. }) => *place,
-            CardFault::Own { place, .. } => *place,
+            CardFault::Record(RecordFault::Seal(at)) => at.place,
+            CardFault::Record(RecordFault::Own(at)) => at.place,
+            CardFault::Own(at) => at.place,
         }
     }
 }
@@ -151,13 +191,15 @@ impl fmt::Display for CardFault {
     ghost output = { λ f. Some (refused_text (of_card f)) };
 
     fn fmt<W: fmt::Write>(&self, f: &mut fmt::Formatter<W>) -> fmt::Result {
-        let number = self.number();
-        let layer = self.layer();
-        let record = self.record();
-        let place = self.place();
         write!(
             f,
-            "refused {number} layer {layer} record {record} place {place}"
+            "refused {} layer {} record {} place {}",
+            self.number(),
+            self.layer(),
+            self.record(),
+            self.place()
         )
     }
 }
+
+impl Error for CardFault {}

@@ -41,8 +41,10 @@ pub fn record_nonce(header: &[u8; 13], n: u64) -> [u8; 16]
     ensures { result ≡ nonce header.now n }
 {
     let mut bytes = [0; 16];
-    bytes[0..8].copy_from_slice(&header[5..13]);
-    bytes[8..16].copy_from_slice(&n.to_be_bytes());
+    let (_, number) = header.split_at(5);
+    let (front, back) = bytes.split_at_mut(8);
+    front.copy_from_slice(number);
+    back.copy_from_slice(&n.to_be_bytes());
     bytes
 }
 
@@ -51,7 +53,8 @@ pub fn record_data(header: &[u8; 13], head: &[u8; 9]) -> [u8; 22]
     ensures { result ≡ header.now ++ head.now }
 {
     let mut bytes = [0; 22];
-    bytes[0..13].copy_from_slice(header);
-    bytes[13..22].copy_from_slice(head);
+    let (front, back) = bytes.split_at_mut(HEADER_BYTES);
+    front.copy_from_slice(header);
+    back.copy_from_slice(head);
     bytes
 }

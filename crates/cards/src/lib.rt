@@ -3,9 +3,11 @@
 
 mod fault;
 mod format;
+mod kind;
 
-pub use fault::{CardFault, CardNo, RecordFault, RecordNo, SealedFault};
+pub use fault::{At, CardFault, CardNo, RecordFault, RecordNo, SealedFault};
 pub use format::{
     HEAD_BYTES, HEADER_BYTES, MARK, MOST_BODY, MOST_SHEETS, make_head, make_header, record_data,
     record_nonce,
 };
+pub use kind::Kind;

@@ -1,6 +1,7 @@
 pub mod Opening
+pub mod Parsed
 pub mod Trying
-pub mod Wiping
-pub mod Checking
 pub mod Within
 pub mod Bodies
+pub mod Checking
+pub mod Wiping

@@ -1,12 +1,16 @@
 -- A record's tag tried.
-use Rattle.std.proofs.Common.{◌≡◌, ℕ, ◌+◌, ◌<◌, ◌≤◌, List, [], ◌++◌, length, Some, None, Ok, Err, Option, Result, sym, refl, ap, ◌∙◌, arith}
+use Rattle.std.proofs.Common.{◌≡◌, ℕ, ◌+◌, ◌<◌, ◌≤◌, List, [], ◌∷◌, ◌++◌, length, Some, None, Ok, Err, Option, Result, sym, refl, ap, ◌∙◌, subst, arith}
 use Rattle.std.proofs.lemmas.List.Edits.{length-between}
 use Rattle.spoc.specs.Sealing.{Sealing}
 use Rattle.cards.specs.Faults.{Fault, fault, and_then}
 use Rattle.cards.specs.Format.{Sheet, nonce, a_sheet}
 use Rattle.cards.specs.Reader.{Record, sheet, last, parse, opened, unseal, read_record, length_of, head_of}
 use Rattle.cards.proofs.Parsing.{sheet_parsed, end_parsed, body_length}
-use Rattle.reader.specs.Said.{tried}
+use Rattle.cards.specs.declared.Kind.{Kind}
+use Rattle.cards.specs.declared.Kind.TheVariants as kind
+use Rattle.reader.specs.declared.rest.SheetHead.{SheetHead}
+use Rattle.reader.specs.Said.{tried, of_kind, open_answer}
+use Rattle.reader.proofs.Opening.{answer_long}
 
 pub record Lengths (r : ℕ) (rest b t : List ℕ) : Type 0 where
   pub whole : 9 + length_of rest + r ≤ length rest
@@ -14,16 +18,26 @@ pub record Lengths (r : ℕ) (rest b t : List ℕ) : Type 0 where
   pub short : length b ≤ 4096
   pub tag : length t ≡ r
 
-pub sheet_lengths : (r n p : ℕ) (rest : List ℕ) (c e : ℕ) (b t : List ℕ) → parse r n p rest ≡ Ok (sheet c e b t) → Lengths r rest b t × (n < 512)
+sheet_lengths : (r n p : ℕ) (rest : List ℕ) (c e : ℕ) (b t : List ℕ) → parse r n p rest ≡ Ok (sheet c e b t) → Lengths r rest b t × (n < 512)
 sheet_lengths r n p rest c e b t h =
     let x = sheet_parsed r n p rest c e b t h in
     let l : length b ≡ length_of rest = ap length (sym x.0.body) ∙ body_length r rest x.0.within in
     (record { whole = x.0.within; body = l; short = omega (arith, x.2); tag = ap length (sym x.0.tag) ∙ length-between rest (9 + length_of rest) (9 + length_of rest + r) x.0.within ∙ omega arith }, x.1)
 
-pub end_lengths : (r n p : ℕ) (rest t : List ℕ) → parse r n p rest ≡ Ok (last t) → Lengths r rest [] t
+end_lengths : (r n p : ℕ) (rest t : List ℕ) → parse r n p rest ≡ Ok (last t) → Lengths r rest [] t
 end_lengths r n p rest t h =
     let x = end_parsed r n p rest t h in
     record { whole = x.0.within; body = sym x.1; short = omega arith; tag = ap length (sym x.0.tag) ∙ length-between rest (9 + length_of rest) (9 + length_of rest + r) x.0.within ∙ omega arith }
+
+no_bytes : (b : List ℕ) → length b ≡ 0 → b ≡ []
+no_bytes [] e = refl
+no_bytes (x ∷ xs) e = absurd (omega arith)
+
+-- a record of the program that was parsed; an end record has no body
+module _ (r n p : ℕ) (rest : List ℕ) where
+  lengths : (k : Kind) (hd : SheetHead) (b t : List ℕ) → (k ≡ kind.End → length b ≡ 0) → Ok (of_kind k hd b t) ≡ parse r n p rest → Lengths r rest b t
+  lengths kind.Sheet hd b t none e = (sheet_lengths r n p rest hd.cell hd.edition b t (sym e)).0
+  lengths kind.End hd b t none e = subst (λ (l : List ℕ). Lengths r rest l t) (sym (no_bytes b (none refl))) (end_lengths r n p rest t (sym e))
 
 then_ok : {X Y : Type 0} (z : Option (List ℕ)) (g : List ℕ → X) (f : Fault) (y : Y) → Ok tt ≡ unseal {X = Unit {0}} z (λ _. tt) f → and_then (unseal z g f) (λ _. Ok y) ≡ Ok y
 then_ok (Some m) g f y e = refl
@@ -34,27 +48,31 @@ then_no (Some m) g f f' y e = absurd (let q : ◌≡◌ {A = ℕ} 0 1 = cc in om
 then_no None g f f' y e = ap Err (cc)
 
 module _ (S : Sealing) (key h : List ℕ) (n p : ℕ) (rest : List ℕ) where
-  module _ (c e : ℕ) (b t : List ℕ) (is : parse S.rate n p rest ≡ Ok (sheet c e b t)) where
-    pub tried_sheet : Ok tt ≡ unseal {X = Unit {0}} (S.opens key (nonce h n) (h ++ head_of rest) b t) (λ _. tt) (fault 6 1 n (p + 9 + length b)) → Ok (sheet c e b t) ≡ tried S key h n p rest
-    tried_sheet o =
-        sym (ap (λ z. and_then z (λ x. and_then (opened S key h n p (head_of rest) x) (λ _. Ok x))) is
-        ∙ then_ok (S.opens key (nonce h n) (h ++ head_of rest) b t) (λ m. Some (a_sheet c e m)) (fault 6 1 n (p + 9 + length b)) (sheet c e b t) o)
+  -- its body is opened into 4,096 bytes
+  abbrev Opened : List ℕ → List ℕ → Result (Unit {0}) Fault → Type 0
+  Opened b t a = a ≡ open_answer (S.opens key (nonce h n) (h ++ head_of rest) b t) (length b) 4096 n (p + 9 + length b)
 
-    pub refused_sheet : (f : Fault) → Err f ≡ unseal {X = Unit {0}} (S.opens key (nonce h n) (h ++ head_of rest) b t) (λ _. tt) (fault 6 1 n (p + 9 + length b)) → Err f ≡ tried S key h n p rest
-    refused_sheet f o =
-        then_no (S.opens key (nonce h n) (h ++ head_of rest) b t) (λ m. Some (a_sheet c e m)) (fault 6 1 n (p + 9 + length b)) f (sheet c e b t) o
-        ∙ sym (ap (λ z. and_then z (λ x. and_then (opened S key h n p (head_of rest) x) (λ _. Ok x))) is)
+  long_enough : (b t : List ℕ) (a : Result (Unit {0}) Fault) → length b ≤ 4096 → Opened b t a → a ≡ unseal (S.opens key (nonce h n) (h ++ head_of rest) b t) (λ _. tt) (fault 6 1 n (p + 9 + length b))
+  long_enough b t a short o = o ∙ answer_long (S.opens key (nonce h n) (h ++ head_of rest) b t) (length b) 4096 n (p + 9 + length b) short
 
-  module _ (t : List ℕ) (is : parse S.rate n p rest ≡ Ok (last t)) where
-    pub tried_end : Ok tt ≡ unseal {X = Unit {0}} (S.opens key (nonce h n) (h ++ head_of rest) [] t) (λ _. tt) (fault 6 1 n (p + 9)) → Ok (last t) ≡ tried S key h n p rest
-    tried_end o =
-        sym (ap (λ z. and_then z (λ x. and_then (opened S key h n p (head_of rest) x) (λ _. Ok x))) is
-        ∙ then_ok {X = Option Sheet} (S.opens key (nonce h n) (h ++ head_of rest) [] t) (λ m. None) (fault 6 1 n (p + 9)) (last t) o)
+  no_body : (t : List ℕ) (a : Result (Unit {0}) Fault) → Opened [] t a → a ≡ unseal (S.opens key (nonce h n) (h ++ head_of rest) [] t) (λ _. tt) (fault 6 1 n (p + 9))
+  no_body t a o = let z : p + 9 + 0 ≡ p + 9 = omega arith in long_enough [] t a (omega arith) o ∙ ap (λ i. unseal (S.opens key (nonce h n) (h ++ head_of rest) [] t) (λ _. tt) (fault 6 1 n i)) z
 
-    pub refused_end : (f : Fault) → Err f ≡ unseal {X = Unit {0}} (S.opens key (nonce h n) (h ++ head_of rest) [] t) (λ _. tt) (fault 6 1 n (p + 9)) → Err f ≡ tried S key h n p rest
-    refused_end f o =
-        then_no {X = Option Sheet} (S.opens key (nonce h n) (h ++ head_of rest) [] t) (λ m. None) (fault 6 1 n (p + 9)) f (last t) o
-        ∙ sym (ap (λ z. and_then z (λ x. and_then (opened S key h n p (head_of rest) x) (λ _. Ok x))) is)
+  pub opened_is : (k : Kind) (hd : SheetHead) (b t : List ℕ) (none : k ≡ kind.End → length b ≡ 0) (is : Ok (of_kind k hd b t) ≡ parse S.rate n p rest) → Opened b t (Ok tt) → Ok (of_kind k hd b t) ≡ tried S key h n p rest
+  opened_is kind.Sheet hd b t none is o =
+      sym (ap (λ z. and_then z (λ x. and_then (opened S key h n p (head_of rest) x) (λ _. Ok x))) (sym is)
+      ∙ then_ok (S.opens key (nonce h n) (h ++ head_of rest) b t) (λ m. Some (a_sheet hd.cell hd.edition m)) (fault 6 1 n (p + 9 + length b)) (sheet hd.cell hd.edition b t) (long_enough b t (Ok tt) (lengths S.rate n p rest kind.Sheet hd b t none is).short o))
+  opened_is kind.End hd b t none is o =
+      sym (ap (λ z. and_then z (λ x. and_then (opened S key h n p (head_of rest) x) (λ _. Ok x))) (sym is)
+      ∙ then_ok {X = Option Sheet} (S.opens key (nonce h n) (h ++ head_of rest) [] t) (λ m. None) (fault 6 1 n (p + 9)) (last t) (no_body t (Ok tt) (subst (λ (l : List ℕ). Opened l t (Ok tt)) (no_bytes b (none refl)) o)))
+
+  pub refused_is : (k : Kind) (hd : SheetHead) (b t : List ℕ) (none : k ≡ kind.End → length b ≡ 0) (is : Ok (of_kind k hd b t) ≡ parse S.rate n p rest) (f : Fault) → Opened b t (Err f) → Err f ≡ tried S key h n p rest
+  refused_is kind.Sheet hd b t none is f o =
+      then_no (S.opens key (nonce h n) (h ++ head_of rest) b t) (λ m. Some (a_sheet hd.cell hd.edition m)) (fault 6 1 n (p + 9 + length b)) f (sheet hd.cell hd.edition b t) (long_enough b t (Err f) (lengths S.rate n p rest kind.Sheet hd b t none is).short o)
+      ∙ ap (λ z. and_then z (λ x. and_then (opened S key h n p (head_of rest) x) (λ _. Ok x))) is
+  refused_is kind.End hd b t none is f o =
+      then_no {X = Option Sheet} (S.opens key (nonce h n) (h ++ head_of rest) [] t) (λ m. None) (fault 6 1 n (p + 9)) f (last t) (no_body t (Err f) (subst (λ (l : List ℕ). Opened l t (Err f)) (no_bytes b (none refl)) o))
+      ∙ ap (λ z. and_then z (λ x. and_then (opened S key h n p (head_of rest) x) (λ _. Ok x))) is
 
 -- what a tried record is to the walk
 tried_ok : (P : Result Record Fault) (O : Record → Result (Option Sheet) Fault) (x : Record) → and_then P (λ y. and_then (O y) (λ _. Ok y)) ≡ Ok x → (y : Option Sheet) × (P ≡ Ok x) × (O x ≡ Ok y)
@@ -81,16 +99,28 @@ module _ (S : Sealing) (key h : List ℕ) (n p : ℕ) (rest : List ℕ) where
   pub read_refused : (f : Fault) → Err f ≡ tried S key h n p rest → read_record S key h n p rest ≡ Err f
   read_refused f e = tried_no (parse S.rate n p rest) (opened S key h n p (head_of rest)) f (sym e)
 
-  pub read_sheet : (c e : ℕ) (b t : List ℕ) → Ok (sheet c e b t) ≡ tried S key h n p rest → (s : Sheet) × (read_record S key h n p rest ≡ Ok (Some s)) × (parse S.rate n p rest ≡ Ok (sheet c e b t))
+  read_sheet : (c e : ℕ) (b t : List ℕ) → Ok (sheet c e b t) ≡ tried S key h n p rest → (s : Sheet) × (read_record S key h n p rest ≡ Ok (Some s)) × (parse S.rate n p rest ≡ Ok (sheet c e b t))
   read_sheet c e b t i =
       let O = opened S key h n p (head_of rest) in
       let x = tried_ok (parse S.rate n p rest) O (sheet c e b t) (sym i) in
       let u = unsealed (S.opens key (nonce h n) (h ++ head_of rest) b t) (λ m. Some (a_sheet c e m)) (fault 6 1 n (p + 9 + length b)) x.0 x.2 in
       (a_sheet c e u.0, ap (λ z. and_then z O) x.1 ∙ x.2 ∙ ap Ok (sym u.1), x.1)
 
-  pub read_end : (t : List ℕ) → Ok (last t) ≡ tried S key h n p rest → (read_record S key h n p rest ≡ Ok None) × (parse S.rate n p rest ≡ Ok (last t))
+  read_end : (t : List ℕ) → Ok (last t) ≡ tried S key h n p rest → (read_record S key h n p rest ≡ Ok None) × (parse S.rate n p rest ≡ Ok (last t))
   read_end t i =
       let O = opened S key h n p (head_of rest) in
       let x = tried_ok (parse S.rate n p rest) O (last t) (sym i) in
       let u = unsealed {X = Option Sheet} (S.opens key (nonce h n) (h ++ head_of rest) [] t) (λ m. None) (fault 6 1 n (p + 9)) x.0 x.2 in
       (ap (λ z. and_then z O) x.1 ∙ x.2 ∙ ap Ok (sym u.1), x.1)
+
+  -- the record that was read, to the walk
+  pub walked_sheet : (hd : SheetHead) (b t : List ℕ) → Ok (of_kind kind.Sheet hd b t) ≡ tried S key h n p rest → (n < 512) × Lengths S.rate rest b t × ((s : Sheet) × (read_record S key h n p rest ≡ Ok (Some s)))
+  walked_sheet hd b t i =
+      let x = read_sheet hd.cell hd.edition b t i in
+      let l = sheet_lengths S.rate n p rest hd.cell hd.edition b t x.2 in
+      (l.1, l.0, (x.0, x.1))
+
+  pub walked_end : (hd : SheetHead) (b t : List ℕ) → Ok (of_kind kind.End hd b t) ≡ tried S key h n p rest → Lengths S.rate rest [] t × (read_record S key h n p rest ≡ Ok None)
+  walked_end hd b t i =
+      let x = read_end t i in
+      (end_lengths S.rate n p rest t x.1, x.0)

@@ -1,18 +1,11 @@
--- The scratch with its front zeroed.
-use Rattle.std.proofs.Common.{◌≡◌, ℕ, List, ◌++◌, drop, replicate, ap, ◌∙◌}
-use Rattle.cards.specs.Reader.{wiped}
+-- The scratch that check leaves.
+use Rattle.std.proofs.Common.{◌≡◌, ℕ, ◌≤◌, List, ◌++◌, length, drop, replicate, arith, ◌∙◌, refl}
+use Rattle.std.proofs.lemmas.Bool.Decides.{nat_tests}
+use Rattle.cards.specs.Reader.{scratch_after, wiped}
 
-abbrev zeroed : ℕ → List ℕ → List ℕ
-zeroed n xs = replicate n 0 ++ drop n xs
-
-pub wiped_is : (n : ℕ) (xs ys : List ℕ) → n ≡ 4096 → ys ≡ zeroed n xs → ys ≡ wiped xs
+wiped_is : (s : List ℕ) → replicate 4096 0 ++ drop 4096 s ≡ wiped s
 unfolding wiped
-wiped_is n xs ys e h = h ∙ ap (λ k. zeroed k xs) e
+wiped_is s = refl
 
-zeroed_same : (n : ℕ) (xs ys : List ℕ) → drop n xs ≡ drop n ys → zeroed n xs ≡ zeroed n ys
-zeroed_same n xs ys e = ap (λ (l : List ℕ). replicate n 0 ++ l) e
-
--- what was written over the first 4,096 bytes is not seen once they are wiped
-pub wiped_same : (xs ys : List ℕ) → drop 4096 xs ≡ drop 4096 ys → wiped xs ≡ wiped ys
-unfolding wiped
-wiped_same xs ys e = zeroed_same 4096 xs ys e
+pub scratch_wiped : (key s : List ℕ) → length key ≡ 16 → 4096 ≤ length s → replicate 4096 0 ++ drop 4096 s ≡ scratch_after key s
+scratch_wiped key s hk hs = wiped_is s ∙ grind (arith, nat_tests)

@@ -1,10 +1,11 @@
 -- What the ghost fields of a card give: each of its records lies within it.
-use Rattle.std.proofs.Common.{◌≡◌, ℕ, suc, ◌+◌, ◌-◌, ◌<◌, ◌≤◌, List, length, take, drop, sym, ap, ◌∙◌, subst, ⊎_elim, add-one, arith}
-use Rattle.std.proofs.lemmas.List.{length-drop, take_rest}
+use Rattle.std.proofs.Common.{◌≡◌, ℕ, suc, ◌+◌, ◌<◌, ◌≤◌, List, length, drop, sym, ap, ◌∙◌, subst, ⊎_elim, add-one, arith}
+use Rattle.std.proofs.lemmas.List.{drop-drop, length-drop}
 use Rattle.std.proofs.str.Laws.{order}
 use Rattle.cards.specs.Reader.{place_of, length_of}
 use Rattle.cards.proofs.Places.{place_low, place_within}
 use Rattle.reader.specs.declared.card.Card.{Card}
+use Rattle.reader.specs.declared.rest.Rest.{Rest}
 
 abbrev pub place : Card → ℕ → ℕ
 place c i = place_of c.rate c.bytes.now i
@@ -15,17 +16,27 @@ within c i h =
     (c.runs (⊎_elim (λ some. some) (λ none. let z = c.none (omega arith) in absurd (omega arith)) (order 0 (length c.bytes.now))))
     (omega arith)
 
--- a walk over the records has come to record i, at place p
-module _ (c : Card) (i p : ℕ) (at : p ≡ place c i) where
-  pub fits : i < c.count → p + (9 + length_of (drop p c.bytes.now) + c.rate) ≤ length c.bytes.now
-  fits h = subst (λ q. q + (9 + length_of (drop q c.bytes.now) + c.rate) ≤ length c.bytes.now) (sym at) (within c i h)
+-- the rest of a card from record i on
+pub record From (c : Card) (i : ℕ) (x : Rest) : Type 0 where
+  pub number : x.number ≡ i
+  pub place_is : x.place ≡ place c i
+  pub bytes : x.bytes.now ≡ drop (place c i) c.bytes.now
 
-  pub next : p + (9 + length_of (drop p c.bytes.now) + c.rate) ≡ place c (i + 1)
-  next = ap (λ q. q + (9 + length_of (drop q c.bytes.now) + c.rate)) at ∙ ap (place c) (sym (add-one i))
+module _ (c : Card) (i : ℕ) (x : Rest) (at : From c i x) where
+  pub fits : i < c.count → 9 + length_of x.bytes.now + c.rate ≤ length x.bytes.now
+  fits h = subst (λ (xs : List ℕ). 9 + length_of xs + c.rate ≤ length xs) (sym at.bytes) (omega (arith, within c i h, length-drop (place c i) c.bytes.now))
 
-  pub low : 13 ≤ p
-  low = subst (λ q. 13 ≤ q) (sym at) (place_low c.rate c.bytes.now i)
+  pub next : (y : Rest) (k : ℕ) → k ≡ 9 + length_of x.bytes.now + c.rate → y.bytes.now ≡ drop k x.bytes.now → y.number ≡ x.number + 1 → y.place ≡ x.place + k → From c (i + 1) y
+  next y k e eb en ep =
+      let size : x.place + k ≡ place c (i + 1) = ap (λ j. x.place + j) (e ∙ ap (λ (xs : List ℕ). 9 + length_of xs + c.rate) at.bytes) ∙ ap (λ q. q + (9 + length_of (drop (place c i) c.bytes.now) + c.rate)) at.place_is ∙ ap (place c) (sym (add-one i)) in
+      record {
+        number = en ∙ ap (λ j. j + 1) at.number;
+        place_is = ep ∙ size;
+        bytes = eb ∙ ap (drop k) at.bytes ∙ drop-drop k (place c i) c.bytes.now ∙ ap (λ q. drop q c.bytes.now) (ap (λ q. q + k) (sym at.place_is) ∙ size);
+      }
 
--- the record at the front of the rest of a card, as the program cuts it off
-pub rest_whole : (bs : List ℕ) (p r : ℕ) → p + (9 + length_of (drop p bs) + r) ≤ length bs → 9 + length_of (take (length bs - p) (drop p bs)) + r ≤ length (take (length bs - p) (drop p bs))
-rest_whole bs p r h = subst (λ (xs : List ℕ). 9 + length_of xs + r ≤ length xs) (sym (take_rest bs p)) (omega (arith, length-drop p bs))
+pub from_first : (c : Card) (x : Rest) → x.bytes.now ≡ drop 13 c.bytes.now → x.number ≡ 0 → x.place ≡ 13 → From c 0 x
+from_first c x b n p = record { number = n; place_is = p; bytes = b }
+
+pub header_long : (c : Card) (i : ℕ) → i < c.count → 13 ≤ length c.bytes.now
+header_long c i h = omega (arith, within c i h, place_low c.rate c.bytes.now (suc i))

@@ -3,7 +3,7 @@ use Rattle.std.specs.Prelude.{◌≡◌, ℕ, List, length, Ok, Err, Result}
 use Rattle.cards.specs.Faults.{Fault}
 use Rattle.cards.specs.Format.{Sheet}
 use Rattle.cards.specs.Reader.{cell_of, edition_of, length_of}
-use Rattle.reader.specs.declared.parts.SheetHead.{SheetHead}
+use Rattle.reader.specs.declared.rest.SheetHead.{SheetHead}
 
 -- a head of these fields
 abbrev pub a_head : ℕ → ℕ → ℕ → SheetHead

@@ -1,34 +1,31 @@
 -- What the program's answers say. Assumes nothing.
-use Rattle.std.specs.Prelude.{ℕ, cond, List, ◌++◌, length, drop, Ok, Err, Option, Result, ◌==◌, nat_le}
+use Rattle.std.specs.Prelude.{ℕ, ◌+◌, cond, ◌&&◌, List, ◌++◌, length, drop, Ok, Err, Option, Result, ◌==◌, nat_le, nat_lt}
 use Rattle.spoc.specs.Sealing.{Sealing}
-use Rattle.cards.specs.Faults.{Fault, fault, and_then, of_sealed, of_record}
-use Rattle.cards.specs.Reader.{Record, sheet, last, parse, opened, head_of, unseal, body_or_zeros}
+use Rattle.cards.specs.Faults.{Fault, fault, and_then, of_record}
+use Rattle.cards.specs.Reader.{Record, sheet, last, parse, opened, head_of, cell_of, edition_of, length_of, unseal, body_or_zeros}
 use Rattle.cards.specs.declared.RecordFault.{RecordFault}
-use Rattle.cards.specs.declared.SealedFault.{SealedFault}
-use Rattle.reader.specs.declared.parts.Record as code
-use Rattle.reader.specs.declared.parts.Record.TheVariants as part
+use Rattle.cards.specs.declared.Kind.{Kind}
+use Rattle.cards.specs.declared.Kind.TheVariants.{Sheet, End}
+use Rattle.reader.specs.declared.rest.Record as code
+use Rattle.reader.specs.declared.rest.SheetHead.{SheetHead}
 
 -- a record of the program, as the reader's
-abbrev pub of_part : code.Record → Record
-of_part (part.Sheet c e b t) = sheet c e b.now t.now
-of_part (part.End t) = last t.now
+abbrev pub of_kind : Kind → SheetHead → List ℕ → List ℕ → Record
+of_kind Sheet h b t = sheet h.cell h.edition b t
+of_kind End h b t = last t
 
--- what the answers of the record layer and of the cipher say
+abbrev pub of_part : code.Record → Record
+of_part r = of_kind r.kind r.head r.body.now r.tag.now
+
+-- what an answer of the record layer says
 abbrev pub said : Result code.Record RecordFault → Result Record Fault
 said (Ok x) = Ok (of_part x)
 said (Err f) = Err (of_record f)
 
-abbrev pub passed : {X : Type 0} → Result X SealedFault → Result X Fault
-passed (Ok x) = Ok x
-passed (Err f) = Err (of_sealed f)
-
-abbrev pub recorded : {X : Type 0} → Result X RecordFault → Result X Fault
-recorded (Ok x) = Ok x
-recorded (Err f) = Err (of_record f)
-
--- the first two questions of check, with a scratch of so many bytes
-abbrev pub ready_with : List ℕ → ℕ → Result (List ℕ) Fault
-ready_with key scratch = cond (length key == 16) (cond (nat_le 4096 scratch) (Ok key) (Err (fault 4 1 0 0))) (Err (fault 1 1 0 0))
+-- the questions on the head of record n at place p, of each kind
+abbrev pub asked : Kind → ℕ → ℕ → List ℕ → Result (Unit {0}) Fault
+asked Sheet n p rest = cond (nat_lt n 512) (cond (nat_le (length_of rest) 4096) (Ok tt) (Err (fault 7 2 n (p + 7)))) (Err (fault 8 2 n p))
+asked End n p rest = cond (cell_of rest == n && (edition_of rest == 0 && length_of rest == 0)) (Ok tt) (Err (fault 14 2 n (p + 1)))
 
 -- the answer to opening record n, of a body of b bytes, into a buffer of o bytes: is it long enough? does the tag agree?
 abbrev pub open_answer : Option (List ℕ) → ℕ → ℕ → ℕ → ℕ → Result (Unit {0}) Fault

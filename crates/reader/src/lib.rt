@@ -4,12 +4,14 @@
 mod card;
 mod empty;
 mod finding;
-mod parts;
+mod key;
+mod parsing;
+mod rest;
 mod sheets;
 mod walk;
 
 pub use card::Card;
 pub use finding::find;
-pub use parts::SheetHead;
+pub use rest::SheetHead;
 pub use sheets::sheet;
 pub use walk::check;

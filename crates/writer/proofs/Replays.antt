@@ -1,7 +1,7 @@
 -- One call after another of a run.
-use Rattle.std.proofs.Common.{◌≡◌, ℕ, zero, suc, ◌+◌, ◌-◌, ◌<◌, ◌≤◌, min, List, [], ◌∷◌, ◌++◌, map, length, get_or, take, drop, set, Ok, Err, Result, sym, refl, ap, ◌∙◌, subst, ⊎_elim, add-one, arith, Bor}
+use Rattle.std.proofs.Common.{◌≡◌, ℕ, ◌+◌, ◌<◌, min, List, [], ◌∷◌, ◌++◌, map, length, get_or, take, drop, set, Err, Result, sym, ap, ◌∙◌, subst, ⊎_elim, arith, Bor}
 use Rattle.std.proofs.str.Laws.{order}
-use Rattle.std.proofs.lemmas.List.{append_assoc, append-nil, drop_all, drop-drop, drop_more, map-append, take_all}
+use Rattle.std.proofs.lemmas.List.{append_assoc, drop-drop, drop-set-lt, drop_more, map-append, take_all}
 use Rattle.spoc.specs.Sealing.{Sealing}
 use Rattle.cards.specs.Faults.{Fault, told, of_card}
 use Rattle.cards.specs.Format.{Sheet, a_sheet}
@@ -39,12 +39,6 @@ module _ (S : Sealing) (w : Plain) (all : List plain.Call) (done : List (Result 
     where
       ran : (f : Fault) → close_answer S q ≡ Err f → run S q (close ∷ cs) ≡ answered (Err f) (next_nonce q) (run S q cs)
       ran f e = ap (λ a. closing S q a (run S q cs)) e
-
-  reached_close : (n : ℕ) → close_answer S q ≡ Ok n → Reached S w all done q (close ∷ cs) → (done ++ (Ok n ∷ []) ≡ (run S w all).answers) × (closed_medium S q ≡ (run S w all).medium)
-  reached_close n e h = (ap (λ (x : Run). done ++ x.answers) (sym ran) ∙ h.answers, ap (λ (x : Run). x.medium) (sym ran) ∙ h.medium)
-    where
-      ran : run S q (close ∷ cs) ≡ closing S q (Ok n) (run S q cs)
-      ran = ap (λ a. closing S q a (run S q cs)) e
 
 -- what a turn leaves, for each plain writer that the first state stands for
 abbrev pub Goes : {B : ℕ} {T : Type 0} (S : Sealing) (x : Writer B T) (m : List ℕ) (calls : List Call) (v : List (Result ℕ CardFault)) (x' : Writer B T) (m' : List ℕ) (i : ℕ) → Type 0
@@ -95,47 +89,20 @@ module _ {B : ℕ} {T : Type 0} (S : Sealing) (x : Writer B T) (m : List ℕ) (c
         subst (λ l. Reached S w (map plain_call calls) l q rest) (sym (told_push v v' (Err f) pushed)) (reached_refusal S w (map plain_call calls) (map told v) q rest (of_card f) (sym y.0) at),
       )
 
-  pub goes_closed : (n : ℕ) (m'' : List ℕ) (v' : List (Result ℕ CardFault)) → get_or calls i d ≡ Close → v' ≡ v ++ (Ok n ∷ [])
-      → ((q : Plain) → Stands x' m' q → (Ok n ≡ close_answer S q) × (m'' ≡ left_by (close_answer S q) (closed_medium S q) q.medium))
-      → (w : Plain) → Stands x m w → (map told v' ≡ (run S w (map plain_call calls)).answers) × (m'' ≡ (run S w (map plain_call calls)).medium)
-  goes_closed n m'' v' is pushed says w s =
-      let g = goes w s in
-      let q = g.0 in
-      let y = says q g.1 in
-      let rest = map plain_call (drop (i + 1) calls) in
-      let at = subst (λ cs. Reached S w (map plain_call calls) (map told v) q cs) (next_call calls i d Close within is) g.2 in
-      let last = reached_close S w (map plain_call calls) (map told v) q rest n (sym y.0) at in
-      (told_push v v' (Ok n) pushed ∙ last.0, y.1 ∙ ap (λ a. left_by a (closed_medium S q) q.medium) (sym y.0) ∙ last.1)
-
--- where no call is left
-pub goes_all : {B : ℕ} {T : Type 0} (S : Sealing) (x : Writer B T) (m : List ℕ) (calls : List Call) (v : List (Result ℕ CardFault)) (x' : Writer B T) (m' : List ℕ) (i : ℕ) → Goes S x m calls v x' m' i → length calls ≤ i
-    → (w : Plain) → Stands x m w → (map told v ≡ (run S w (map plain_call calls)).answers) × (m' ≡ (run S w (map plain_call calls)).medium)
-goes_all S x m calls v x' m' i goes h w s =
-    let g = goes w s in
-    let at = subst (λ cs. Reached S w (map plain_call calls) (map told v) g.0 cs) (ap (map plain_call) (drop_all i calls h)) g.2 in
-    (sym (append-nil (map told v)) ∙ at.answers, g.1.medium ∙ at.medium)
-
 -- ---- slots
 
 -- as many calls as there are slots
-pub part_is : (xs : List Call) (a k : ℕ) → k ≡ min (length xs) a → take (k - 0) xs ≡ take a xs
+pub part_is : (xs : List Call) (a k : ℕ) → k ≡ min (length xs) a → take k xs ≡ take a xs
 part_is xs a k e =
     ⊎_elim
-    (λ less. let same : k - 0 ≡ a = omega arith in ap (λ n. take n xs) same)
-    (λ more. take_all (k - 0) xs (omega arith) ∙ sym (take_all a xs (omega arith)))
+    (λ less. let same : k ≡ a = omega arith in ap (λ n. take n xs) same)
+    (λ more. take_all k xs (omega arith) ∙ sym (take_all a xs (omega arith)))
     (order a (length xs))
 
 pub called : (xs ys : List Call) (i : ℕ) (d x : Call) → xs ≡ ys → get_or xs i d ≡ x → get_or ys i d ≡ x
 called xs ys i d x e h = subst (λ (z : List Call). get_or z i d ≡ x) e h
 
-drop_suc_set : {X : Type 0} (xs : List X) (i : ℕ) (y : X) → drop (suc i) (set xs i y) ≡ drop (suc i) xs
-drop_suc_set [] i y = refl
-drop_suc_set (x ∷ xs) zero y = refl
-drop_suc_set (x ∷ xs) (suc i) y = drop_suc_set xs i y
-
 -- the slots after one that is written stay
 pub others_stay : {X : Type 0} (xs ys zs : List X) (i : ℕ) (y : X) → ys ≡ set xs i y → drop i xs ≡ drop i zs → drop (i + 1) ys ≡ drop (i + 1) zs
 others_stay xs ys zs i y e h =
-    ap (drop (i + 1)) e
-    ∙ ap (λ n. drop n (set xs i y)) (add-one i) ∙ drop_suc_set xs i y ∙ ap (λ n. drop n xs) (sym (add-one i))
-    ∙ sym (drop-drop 1 i xs) ∙ ap (drop 1) h ∙ drop-drop 1 i zs
+    ap (drop (i + 1)) e ∙ drop-set-lt (i + 1) xs i y (omega arith) ∙ sym (drop-drop 1 i xs) ∙ ap (drop 1) h ∙ drop-drop 1 i zs

@@ -1,37 +1,17 @@
-ghost use Rattle.std.specs.Prelude.{◌≡◌, ◌≤◌, ◌++◌, length, drop};
+ghost use Rattle.std.specs.Prelude.{◌≡◌};
 ghost use Rattle.spoc.specs.Sealing.{spoc as spoc_of};
-ghost use Rattle.cards.specs.Faults.{told};
+ghost use Rattle.cards.specs.Faults.{told, recorded};
 ghost use Rattle.cards.specs.Format.{a_sheet};
-ghost use Rattle.cards.specs.Plain.{Plain, start as plain_start, start_medium, append_answer, appended, close_answer, closed_medium, left_by};
+ghost use Rattle.cards.specs.Plain.{Plain, start as plain_start, start_medium, append_answer, append_questions, appended, close_answer, closed_medium, left_by};
 ghost use Rattle.writer.specs.Stands.{Stands, Starts, Back, closing};
 
-use crate::seals::put_sealed;
 use crate::writer::{Unclosed, Writer};
 use cards::{
-    CardFault, CardNo, HEAD_BYTES, HEADER_BYTES, MOST_BODY, MOST_SHEETS, RecordFault, RecordNo,
-    SealedFault, make_head, make_header,
+    At, CardFault, CardNo, HEAD_BYTES, HEADER_BYTES, Kind, MOST_BODY, MOST_SHEETS, RecordFault,
+    RecordNo, make_head, make_header,
 };
 use spoc::{SealFault, Suite};
 use std::marker::PhantomData;
-
-// The kinds of records.
-const SHEET: u8 = 1;
-
-const END: u8 = 2;
-
-fn put_header(header: &[u8; 13], medium: &mut [u8])
-    requires { 13 ≤ length medium.old }
-    ensures { medium.new ≡ header.now ++ drop 13 medium.old }
-{
-    medium[0..13].copy_from_slice(header);
-}
-
-// A fault of append.
-fn refused(no: RecordNo, record: usize, place: usize) -> CardFault
-    ensures { result ≡ CardFault.Record (RecordFault.Own no «record» place) }
-{
-    CardFault::Record(RecordFault::Own { no, record, place })
-}
 
 impl<const B: usize, S: Suite<B> + Drop> Writer<B, S> {
     // Starts a card on a medium: writes its header.
@@ -40,22 +20,13 @@ impl<const B: usize, S: Suite<B> + Drop> Writer<B, S> {
         ensures medium { medium.new ≡ start_medium (spoc_of S.Bijection.meaning S.SuiteModel.plan) key.now number medium.old }
     {
         let Ok(key) = <[u8; 16]>::try_from(key) else {
-            let fault = SealedFault {
-                fault: SealFault::KeyLength,
-                record: 0,
-                place: 0,
-            };
-            return Err(CardFault::Record(RecordFault::Seal(fault)));
+            return Err(RecordFault::from(At::new(SealFault::KeyLength, 0, 0)).into());
         };
         if medium.len() < HEADER_BYTES + HEAD_BYTES + S::rate_bytes() {
-            return Err(CardFault::Own {
-                no: CardNo::MediumShort,
-                record: 0,
-                place: 0,
-            });
+            return Err(CardNo::MediumShort.at(0, 0));
         }
         let header = make_header(S::version_number(), number);
-        put_header(&header, medium);
+        medium[..HEADER_BYTES].copy_from_slice(&header);
         Ok(Writer {
             suite: PhantomData,
             key,
@@ -63,6 +34,23 @@ impl<const B: usize, S: Suite<B> + Drop> Writer<B, S> {
             count: 0,
             place: HEADER_BYTES,
         })
+    }
+
+    // The questions of append, of a body and a medium of such lengths. The answer is the record's number.
+    fn ask(&self, body: usize, medium: usize) -> Result<usize, RecordFault>
+        ensures { recorded result ≡ append_questions S.SuiteModel.plan.rate self.now.count self.now.place body medium }
+    {
+        if self.count >= MOST_SHEETS {
+            return Err(RecordNo::SheetsFull.at(self.count, self.place));
+        }
+        if body > MOST_BODY {
+            return Err(RecordNo::BodyLong.at(self.count, self.place));
+        }
+        let end_record = HEAD_BYTES + S::rate_bytes();
+        if medium < self.place + (end_record + body) + end_record {
+            return Err(RecordNo::MediumShort.at(self.count, self.place));
+        }
+        Ok(self.count)
     }
 
     // Appends a sheet, and answers its number.
@@ -75,31 +63,11 @@ impl<const B: usize, S: Suite<B> + Drop> Writer<B, S> {
     ) -> Result<usize, CardFault>
         ensures { (w : Plain) → Stands self.old medium.old w → (told result ≡ append_answer (spoc_of S.Bijection.meaning S.SuiteModel.plan) w (a_sheet cell edition body.now)) × Stands self.new medium.new (left_by (append_answer (spoc_of S.Bijection.meaning S.SuiteModel.plan) w (a_sheet cell edition body.now)) (appended (spoc_of S.Bijection.meaning S.SuiteModel.plan) w (a_sheet cell edition body.now)) w) }
     {
-        let n = self.count;
-        let place = self.place;
-        let rate = S::rate_bytes();
-        if n >= MOST_SHEETS {
-            return Err(refused(RecordNo::SheetsFull, n, place));
-        }
-        if body.len() > MOST_BODY {
-            return Err(refused(RecordNo::BodyLong, n, place));
-        }
-        let size = HEAD_BYTES + body.len() + rate;
-        if medium.len() < place + size + (HEAD_BYTES + rate) {
-            return Err(refused(RecordNo::MediumShort, n, place));
-        }
-        let head = make_head(SHEET, cell, edition, body.len() as u16);
-        put_sealed::<B, S>(
-            &self.key,
-            &self.header,
-            n as u64,
-            &head,
-            body,
-            place,
-            medium,
-        );
-        self.count = n + 1;
-        self.place = place + size;
+        let n = self.ask(body.len(), medium.len())?;
+        let head = make_head(Kind::Sheet.into(), cell, edition, body.len() as u16);
+        self.put(&head, body, medium);
+        self.count += 1;
+        self.place += HEAD_BYTES + body.len() + S::rate_bytes();
         Ok(n)
     }
 
@@ -108,22 +76,16 @@ impl<const B: usize, S: Suite<B> + Drop> Writer<B, S> {
         ensures back { Back result self }
         ensures plain { (w : Plain) → Stands self medium.old w → (closing result ≡ close_answer (spoc_of S.Bijection.meaning S.SuiteModel.plan) w) × (medium.new ≡ left_by (close_answer (spoc_of S.Bijection.meaning S.SuiteModel.plan) w) (closed_medium (spoc_of S.Bijection.meaning S.SuiteModel.plan) w) w.medium) }
     {
-        let n = self.count;
-        let place = self.place;
-        let size = HEAD_BYTES + S::rate_bytes();
-        if medium.len() < place + size {
-            let fault = CardFault::Own {
-                no: CardNo::MediumShort,
-                record: n,
-                place,
-            };
+        let length = self.place + HEAD_BYTES + S::rate_bytes();
+        if medium.len() < length {
+            let fault = CardNo::MediumShort.at(self.count, self.place);
             return Err(Unclosed {
                 writer: self,
                 fault,
             });
         }
-        let head = make_head(END, n as u32, 0, 0);
-        put_sealed::<B, S>(&self.key, &self.header, n as u64, &head, &[], place, medium);
-        Ok(place + size)
+        let head = make_head(Kind::End.into(), self.count as u32, 0, 0);
+        self.put(&head, &[], medium);
+        Ok(length)
     }
 }

@@ -37,31 +37,27 @@ pub fn replay<const B: usize, S: Suite<B> + Drop>(
 {
     let count = calls.len().min(answers.len());
     let mut open = writer;
-    let mut made = 0;
-    for call in &calls[0..count] {
-        match *call {
+    // Over zip(answers.iter_mut()) a proof knows nothing of what the loop wrote, so each slot is written by its number.
+    for (i, call) in calls[..count].iter().enumerate() {
+        let answer = match *call {
             Call::Append {
                 cell,
                 edition,
                 body,
-            } => {
-                answers[made] = open.append(medium, cell, edition, body);
-            }
-            Call::Close => {
-                match open.close(medium) {
-                    Ok(length) => {
-                        answers[made] = Ok(length);
-                        return made + 1;
-                    }
-                    Err(unclosed) => {
-                        let Unclosed { writer, fault } = unclosed;
-                        open = writer;
-                        answers[made] = Err(fault);
-                    }
+            } => open.append(medium, cell, edition, body),
+            Call::Close => match open.close(medium) {
+                Ok(length) => {
+                    answers[i] = Ok(length);
+                    return i + 1;
                 }
-            }
-        }
-        made += 1;
+                Err(unclosed) => {
+                    let Unclosed { writer, fault } = unclosed;
+                    open = writer;
+                    Err(fault)
+                }
+            },
+        };
+        answers[i] = answer;
     }
-    made
+    count
 }

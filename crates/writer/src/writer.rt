@@ -1,4 +1,4 @@
-ghost use Rattle.std.specs.Prelude.{◌+◌, ◌*◌, ◌≤◌};
+ghost use Rattle.std.specs.Prelude.{◌≡◌, ◌+◌, ◌*◌, ◌≤◌};
 
 use cards::CardFault;
 use std::marker::PhantomData;
@@ -21,4 +21,12 @@ pub struct Writer<const B: usize, S> {
 pub struct Unclosed<const B: usize, S> {
     pub writer: Writer<B, S>,
     pub fault: CardFault,
+}
+
+impl<const B: usize, S: Drop> From<Unclosed<B, S>> for CardFault {
+    ghost from_gives = { λ unclosed fault. fault ≡ unclosed.fault };
+
+    fn from(unclosed: Unclosed<B, S>) -> CardFault {
+        unclosed.fault
+    }
 }

@@ -1,26 +1,31 @@
-use Rattle.std.proofs.Common.{◌≡◌, drop, ap, ◌∙◌, arith, rules}
+use Rattle.std.proofs.Common.{◌≡◌, ap, ◌∙◌, arith, rules}
 use Rattle.cards.proofs.Finding.{find_tells}
-use Rattle.cards.specs.Reader.{cell_of, edition_of, cell_at, edition_at}
+use Rattle.cards.specs.Reader.{cell_of, edition_of, length_of, cell_at, edition_at}
 use Rattle.reader.specs.Cards.{shown}
-use Rattle.reader.specs.declared.parts.SheetHead.{SheetHead}
+use Rattle.reader.specs.declared.rest.SheetHead.{SheetHead}
 use Rattle.reader.proofs.Within.{fits, next}
 use Rattle.reader.proofs.finding.find.Goals as goal
 
-pub fields_at-head-requires : goal.fields_at-head-requires
-fields_at-head-requires c = let f = fits c.args.card.now c.loop-i.i c.loop-i.place c.loop-i.invariant.0 (omega arith) in omega arith
+pub head-head-requires : goal.head-head-requires
+head-head-requires c = let f = fits c.args.card.now c.loop-i.i c.loop-i.rest c.loop-i.invariant.0 (omega arith) in omega arith
 
-pub place_after-place-requires : goal.place_after-place-requires
-place_after-place-requires c = fits c.args.card.now c.loop-i.i c.loop-i.place c.loop-i.invariant.0 (omega arith)
+pub after-rest-requires-clause-within : goal.after-rest-requires-clause-within
+after-rest-requires-clause-within c =
+    let f = fits c.args.card.now c.loop-i.i c.loop-i.rest c.loop-i.invariant.0 (omega arith) in
+    let l : c.head-head.result.«length» ≡ length_of c.loop-i.rest.bytes.now = ap (λ (h : SheetHead). h.«length») c.head-head.ensures.fields in
+    omega arith
 
 pub loop-i-preserved : goal.loop-i-preserved
 loop-i-preserved c =
     let card = c.args.card.now in
-    let e0 : c.fields_at-head.result.cell ≡ cell_at (shown card) c.loop-i.i = ap (λ (h : SheetHead). h.cell) c.fields_at-head.ensures ∙ ap (λ p. cell_of (drop p card.bytes.now)) c.loop-i.invariant.0 in
-    let e1 : c.fields_at-head.result.edition ≡ edition_at (shown card) c.loop-i.i = ap (λ (h : SheetHead). h.edition) c.fields_at-head.ensures ∙ ap (λ p. edition_of (drop p card.bytes.now)) c.loop-i.invariant.0 in (
-      c.place_after-place.ensures ∙ next card c.loop-i.i c.loop-i.place c.loop-i.invariant.0,
+    let at = c.loop-i.invariant.0 in
+    let l : c.head-head.result.«length» ≡ length_of c.loop-i.rest.bytes.now = ap (λ (h : SheetHead). h.«length») c.head-head.ensures.fields in
+    let e0 : c.head-head.result.cell ≡ cell_at (shown card) c.loop-i.i = ap (λ (h : SheetHead). h.cell) c.head-head.ensures.fields ∙ ap cell_of at.bytes in
+    let e1 : c.head-head.result.edition ≡ edition_at (shown card) c.loop-i.i = ap (λ (h : SheetHead). h.edition) c.head-head.ensures.fields ∙ ap edition_of at.bytes in (
+      next card c.loop-i.i c.loop-i.rest at c.after-rest.result _ (omega arith) c.after-rest.ensures.bytes c.after-rest.ensures.number c.after-rest.ensures.place,
       search rules,
       search rules,
     )
 
-pub returns : goal.returns
-returns c = record { finds = search rules; tells = find_tells }
+pub returns-clause-tells : goal.returns-clause-tells
+returns-clause-tells c = find_tells

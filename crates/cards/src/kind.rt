@@ -1,0 +1,36 @@
+ghost use Rattle.std.specs.Prelude.{◌≡◌};
+ghost use Rattle.cards.specs.Kinds.{kind_byte, kind_read};
+
+use crate::fault::RecordNo;
+
+// The kind of a record, which is its head's first byte.
+#[derive(Clone, Copy, Debug, PartialEq, Eq)]
+pub enum Kind {
+    Sheet,
+    End,
+}
+
+impl From<Kind> for u8 {
+    ghost from_gives = { λ kind byte. byte ≡ kind_byte kind };
+
+    fn from(kind: Kind) -> u8 {
+        match kind {
+            Kind::Sheet => 1,
+            Kind::End => 2,
+        }
+    }
+}
+
+impl TryFrom<u8> for Kind {
+    type Error = RecordNo;
+
+    ghost try_from_gives = { λ byte kind. kind ≡ kind_read byte };
+
+    fn try_from(byte: u8) -> Result<Kind, RecordNo> {
+        match byte {
+            1 => Ok(Kind::Sheet),
+            2 => Ok(Kind::End),
+            _ => Err(RecordNo::Kind),
+        }
+    }
+}
