@@ -1,12 +1,12 @@
 ghost use Rattle.std.specs.Prelude.{◌≡◌, List, ◌++◌, IfOk, Ok, Some, string_bytes};
 ghost use Rattle.spoc.specs.Sealing.{spoc as spoc_of};
-ghost use Rattle.cards.specs.Faults.{told};
+ghost use Rattle.cards.specs.Faults.{at, told};
 ghost use Rattle.cards.specs.Format.{Sheet};
 ghost use Rattle.reader.specs.Cards.{shown};
 ghost use Rattle.lister.specs.declared.listing.Unlisted.TheVariants.{Refused, Memory};
 ghost use Rattle.lister.specs.Printed.{card_line, sheet_line, sheet_lines, listed, header_asked, card_listed, input_listed, listing_text, Says, Holds};
 
-use cards::{CardFault, CardNo, HEADER_BYTES, MARK, MOST_BODY, RecordFault, SealedFault};
+use cards::{At, CardFault, CardNo, HEADER_BYTES, MARK, MOST_BODY, RecordFault};
 use permutations::Bench;
 use reader::{Card, SheetHead, check, sheet};
 use spoc::{NoSuchVersion, SealFault, Spoc64, Spoc128, Suite, SuiteName};
@@ -33,10 +33,10 @@ impl TryFrom<&[u8]> for Header {
     fn try_from(bytes: &[u8]) -> Result<Header, CardFault> {
         let (header, _) = bytes
             .split_first_chunk::<HEADER_BYTES>()
-            .ok_or(own(CardNo::Cut, 0))?;
+            .ok_or(CardNo::Cut.at(0, 0))?;
         let [s, e, a, v0, v1, c0, c1, c2, c3, c4, c5, c6, c7] = *header;
         if [s, e, a] != *MARK {
-            return Err(own(CardNo::Mark, 0));
+            return Err(CardNo::Mark.at(0, 0));
         }
         Ok(Header {
             version: u16::from_be_bytes([v0, v1]),
@@ -155,30 +155,15 @@ fn list_card(heap: Global, key: &[u8; 16], bytes: &[u8]) -> Result<String, Unlis
         Ok(SuiteName::Spoc64) => list_under::<24, Spoc64>(heap, key, number, bytes),
         Ok(SuiteName::Spoc128) => list_under::<32, Spoc128>(heap, key, number, bytes),
         Ok(SuiteName::Bench) => list_under::<32, Bench>(heap, key, number, bytes),
-        Err(NoSuchVersion) => Err(Unlisted::Refused(own(CardNo::Version, 3))),
-    }
-}
-
-// A fault of the card.
-fn own(no: CardNo, place: usize) -> CardFault
-    ensures { result ≡ CardFault.Own no 0 place }
-{
-    CardFault::Own {
-        no,
-        record: 0,
-        place,
+        Err(NoSuchVersion) => Err(Unlisted::Refused(CardNo::Version.at(0, 3))),
     }
 }
 
 // A fault of the input's length.
 fn length_fault(fault: SealFault) -> CardFault
-    ensures { result ≡ CardFault.Record (RecordFault.Seal (record { fault = fault; «record» = 0; place = 0 })) }
+    ensures { result ≡ CardFault.Record (RecordFault.Seal (at fault 0 0)) }
 {
-    CardFault::Record(RecordFault::Seal(SealedFault {
-        fault,
-        record: 0,
-        place: 0,
-    }))
+    RecordFault::from(At::new(fault, 0, 0)).into()
 }
 
 // What is printed of an input.

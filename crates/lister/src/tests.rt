@@ -104,7 +104,7 @@ fn write_card<const B: usize, S: Suite<B> + Drop>(
     for (cell, edition, body) in sheets {
         writer.append(medium, *cell, *edition, body)?;
     }
-    writer.close(medium).map_err(|unclosed| unclosed.fault)
+    Ok(writer.close(medium)?)
 }
 
 // A card of two sheets is listed so.
