@@ -1,7 +1,7 @@
 // A client: writes a card, checks it, finds a cell and reads its sheet.
 #![tactic(auto)]
 
-use anyhow::anyhow;
+use anyhow::Context;
 use permutations::Bench;
 use reader::{Card, check, find, sheet};
 use spoc::Suite;
@@ -10,35 +10,29 @@ use writer::Writer;
 const KEY: [u8; 16] = [1; 16];
 
 fn write(medium: &mut [u8]) -> anyhow::Result<usize> {
-    let Ok(first) = Writer::<32, Bench>::start(&KEY, 4, medium) else {
-        return Err(anyhow!("start"));
-    };
-    let mut writer = first;
-    let Ok(_) = writer.append(medium, 7, 1, b"shoal") else {
-        return Err(anyhow!("append"));
-    };
-    let Ok(_) = writer.append(medium, 7, 2, b"deep") else {
-        return Err(anyhow!("append"));
-    };
-    let Ok(length) = writer.close(medium) else {
-        return Err(anyhow!("close"));
-    };
+    let mut writer = Writer::<32, Bench>::start(&KEY, 4, medium)
+        .ok()
+        .context("start")?;
+    writer
+        .append(medium, 7, 1, b"shoal")
+        .ok()
+        .context("append")?;
+    writer.append(medium, 7, 2, b"deep").ok().context("append")?;
+    let length = writer.close(medium).ok().context("close")?;
     Ok(length)
 }
 
 fn read(rt: &HostRuntime, bytes: &[u8]) -> anyhow::Result<()> {
     let mut scratch = [0; 4096];
     let mut card = Card::empty();
-    let Ok(()) = check::<32, Bench>(&KEY, bytes, &mut scratch, &mut card) else {
-        return Err(anyhow!("check"));
-    };
-    let Some(i) = find(&card, 7) else {
-        return Err(anyhow!("find"));
-    };
+    check::<32, Bench>(&KEY, bytes, &mut scratch, &mut card)
+        .ok()
+        .context("check")?;
+    let i = find(&card, 7).context("find")?;
     let mut buffer = [0; 16];
-    let Ok(head) = sheet::<32, Bench>(&card, i, &mut buffer) else {
-        return Err(anyhow!("sheet"));
-    };
+    let head = sheet::<32, Bench>(&card, i, &mut buffer)
+        .ok()
+        .context("sheet")?;
     let edition = head.edition;
     let length = head.length;
     println!(rt; "cell 7 is sheet {i}, edition {edition}, {length} bytes")?;
@@ -48,9 +42,7 @@ fn read(rt: &HostRuntime, bytes: &[u8]) -> anyhow::Result<()> {
 fn run(rt: &HostRuntime) -> anyhow::Result<()> {
     let mut medium = [0; 256];
     let length = write(&mut medium)?;
-    let Some(bytes) = medium.get(0..length) else {
-        return Err(anyhow!("length"));
-    };
+    let bytes = medium.get(0..length).context("length")?;
     read(rt, bytes)
 }
 

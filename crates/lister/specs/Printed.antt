@@ -1,13 +1,17 @@
 -- What the listing program prints of its input, which is 16 key bytes and then a card. Assumes nothing.
-use Rattle.std.specs.Prelude.{◌≡◌, ℕ, suc, ◌+◌, ◌*◌, ◌<◌, cond, List, [], ◌∷◌, ◌++◌, length, take, drop, Ok, Err, string_bytes, codes, decimal, Result, String, ◌==◌, nat_le, slice_index, slice_index_or}
+use Rattle.std.specs.Prelude.{◌≡◌, ℕ, suc, ◌+◌, ◌*◌, ◌<◌, cond, List, [], ◌∷◌, ◌++◌, length, take, drop, Ok, Err, string_bytes, codes, decimal, Result, String, nat_le, slice_index, slice_index_or}
 use Rattle.std.specs.declared.alloc.Global.{Global}
 use Rattle.std.specs.Str.{bytes_eq}
 use Rattle.permutations.specs.Bench.{bench}
 use Rattle.permutations.specs.Light.{light_192, light_256}
 use Rattle.spoc.specs.Bench.{bench_plan}
+use Rattle.spoc.specs.Name.{suite_of}
 use Rattle.spoc.specs.Sealing.{Sealing, spoc}
 use Rattle.spoc.specs.Spoc64.{spoc_64}
 use Rattle.spoc.specs.Spoc128.{spoc_128}
+use Rattle.spoc.specs.declared.NoSuchVersion.{NoSuchVersion}
+use Rattle.spoc.specs.declared.SuiteName.{SuiteName}
+use Rattle.spoc.specs.declared.SuiteName.TheVariants.{Spoc64, Spoc128, Bench}
 use Rattle.cards.specs.Faults.{Fault, fault, and_then, of_card, refused_text}
 use Rattle.cards.specs.Format.{Sheet, mark}
 use Rattle.cards.specs.Reader.{Card, check_bytes, sheet_answer, version_of}
@@ -47,13 +51,16 @@ header_asked bs =
     (Err (fault 11 3 0 0)))
     (Err (fault 10 3 0 0))
 
+-- a card under the suite of a version, if there is one
+abbrev pub under : Result SuiteName NoSuchVersion → List ℕ → ℕ → List ℕ → Result (List ℕ) Fault
+under (Ok Spoc64) = listed (spoc light_192 spoc_64)
+under (Ok Spoc128) = listed (spoc light_256 spoc_128)
+under (Ok Bench) = listed (spoc bench bench_plan)
+under (Err e) = λ key number bs. Err (fault 12 3 0 3)
+
 -- the version picks the suite
 abbrev pub by_version : List ℕ → List ℕ → Header → Result (List ℕ) Fault
-by_version key bs h =
-    cond (h.version == 1) (listed (spoc light_192 spoc_64) key h.number bs)
-    (cond (h.version == 2) (listed (spoc light_256 spoc_128) key h.number bs)
-    (cond (h.version == 9) (listed (spoc bench bench_plan) key h.number bs)
-    (Err (fault 12 3 0 3))))
+by_version key bs h = under (suite_of h.version) key h.number bs
 
 -- the card alone
 abbrev pub card_listed : List ℕ → List ℕ → Result (List ℕ) Fault
@@ -81,7 +88,7 @@ listing_text all = text_of (input_listed all)
 abbrev pub Says : Result (String Global) Unlisted → Result (List ℕ) Fault → Type 0
 Says (Ok t) a = a ≡ Ok (string_bytes t)
 Says (Err (Refused f)) a = a ≡ Err (of_card f)
-Says (Err Memory) a = Unit {0}
+Says (Err (Memory e)) a = Unit {0}
 
 -- a card whose sheets are these
 pub record Holds (S : Sealing) (c : Card) (xs : List Sheet) : Type 0 where

@@ -1,16 +1,18 @@
-ghost use Rattle.std.specs.Prelude.{◌≡◌, List, ◌++◌, IfOk, Ok, string_bytes};
+ghost use Rattle.std.specs.Prelude.{◌≡◌, List, ◌++◌, IfOk, Ok, Some, string_bytes};
 ghost use Rattle.spoc.specs.Sealing.{spoc as spoc_of};
-ghost use Rattle.cards.specs.Faults.{told};
+ghost use Rattle.cards.specs.Faults.{at, told};
 ghost use Rattle.cards.specs.Format.{Sheet};
 ghost use Rattle.reader.specs.Cards.{shown};
 ghost use Rattle.lister.specs.declared.listing.Unlisted.TheVariants.{Refused, Memory};
 ghost use Rattle.lister.specs.Printed.{card_line, sheet_line, sheet_lines, listed, header_asked, card_listed, input_listed, listing_text, Says, Holds};
 
-use cards::{CardFault, CardNo, MARK, MOST_BODY, RecordFault, SealedFault};
+use cards::{At, CardFault, CardNo, HEADER_BYTES, MARK, MOST_BODY, RecordFault};
 use permutations::Bench;
 use reader::{Card, SheetHead, check, sheet};
-use spoc::{SealFault, Spoc64, Spoc128, Suite};
+use spoc::{NoSuchVersion, SealFault, Spoc64, Spoc128, Suite, SuiteName};
 use std::alloc::{AllocError, Global};
+use std::fmt;
+use std::fmt::Write;
 
 // The most bytes of an input: 16 of the key, and a card of 65,536.
 pub const MOST_INPUT: usize = 65552;
@@ -22,11 +24,32 @@ struct Header {
     number: u64,
 }
 
+// The questions on the header that come before the suite is known.
+impl TryFrom<&[u8]> for Header {
+    type Error = CardFault;
+
+    ghost try_from_gives = { λ bytes r. told r ≡ header_asked bytes.now };
+
+    fn try_from(bytes: &[u8]) -> Result<Header, CardFault> {
+        let (header, _) = bytes
+            .split_first_chunk::<HEADER_BYTES>()
+            .ok_or(CardNo::Cut.at(0, 0))?;
+        let [s, e, a, v0, v1, c0, c1, c2, c3, c4, c5, c6, c7] = *header;
+        if [s, e, a] != *MARK {
+            return Err(CardNo::Mark.at(0, 0));
+        }
+        Ok(Header {
+            version: u16::from_be_bytes([v0, v1]),
+            number: u64::from_be_bytes([c0, c1, c2, c3, c4, c5, c6, c7]),
+        })
+    }
+}
+
 // Why an input is not listed.
 #[derive(Clone, Copy)]
 enum Unlisted {
     Refused(CardFault),
-    Memory,
+    Memory(AllocError),
 }
 
 impl From<CardFault> for Unlisted {
@@ -38,35 +61,57 @@ impl From<CardFault> for Unlisted {
 }
 
 impl From<AllocError> for Unlisted {
-    ghost from_gives = { λ _ r. r ≡ Memory };
+    ghost from_gives = { λ e r. r ≡ Memory e };
 
-    fn from(_e: AllocError) -> Unlisted {
-        Unlisted::Memory
+    fn from(e: AllocError) -> Unlisted {
+        Unlisted::Memory(e)
     }
 }
 
 // The line of a card.
-fn card_line(heap: Global, number: u64, version: u16, sheets: usize) -> Result<String, AllocError>
-    ensures { IfOk result (λ t. string_bytes t ≡ card_line number version sheets) }
-{
-    format!(in heap; "card {number} version {version} sheets {sheets}\n")
+#[derive(Clone, Copy)]
+struct CardLine {
+    number: u64,
+    version: u16,
+    sheets: usize,
+}
+
+impl fmt::Display for CardLine {
+    ghost output = { λ l. Some (card_line l.number l.version l.sheets) };
+
+    fn fmt<W: fmt::Write>(&self, f: &mut fmt::Formatter<W>) -> fmt::Result {
+        let CardLine {
+            number,
+            version,
+            sheets,
+        } = self;
+        writeln!(f, "card {number} version {version} sheets {sheets}")
+    }
 }
 
 // The line of a sheet.
-fn sheet_line(heap: Global, i: usize, head: SheetHead) -> Result<String, AllocError>
-    ensures { IfOk result (λ t. string_bytes t ≡ sheet_line i head.cell head.edition head.«length») }
-{
-    let SheetHead {
-        cell,
-        edition,
-        length,
-    } = head;
-    format!(in heap; "sheet {i} cell {cell} edition {edition} length {length}\n")
+#[derive(Clone, Copy)]
+struct SheetLine {
+    i: usize,
+    head: SheetHead,
+}
+
+impl fmt::Display for SheetLine {
+    ghost output = { λ l. Some (sheet_line l.i l.head.cell l.head.edition l.head.«length») };
+
+    fn fmt<W: fmt::Write>(&self, f: &mut fmt::Formatter<W>) -> fmt::Result {
+        let SheetLine { i, head } = self;
+        let SheetHead {
+            cell,
+            edition,
+            length,
+        } = head;
+        writeln!(f, "sheet {i} cell {cell} edition {edition} length {length}")
+    }
 }
 
 // A card's lines, with those of its sheets after the text.
 fn list_sheets<const B: usize, S: Suite<B>>(
-    heap: Global,
     card: &Card<'_>,
     mut text: String,
 ) -> Result<String, Unlisted>
@@ -75,7 +120,8 @@ fn list_sheets<const B: usize, S: Suite<B>>(
     let mut buffer = [0; MOST_BODY];
     for i in 0..card.count() {
         let head = sheet::<B, S>(card, i, &mut buffer)?;
-        text.push_str(sheet_line(heap, i, head)?.as_str())?;
+        let line = SheetLine { i, head };
+        write!(text, "{line}")?;
     }
     Ok(text)
 }
@@ -92,76 +138,43 @@ fn list_under<const B: usize, S: Suite<B>>(
     let mut scratch = [0; MOST_BODY];
     let mut card = Card::empty();
     check::<B, S>(key, bytes, &mut scratch, &mut card)?;
-    let text = card_line(heap, number, S::VERSION, card.count())?;
-    list_sheets::<B, S>(heap, &card, text)
-}
-
-// The questions on the header that come before the suite is known.
-fn read_header(bytes: &[u8]) -> Result<Header, CardFault>
-    ensures { told result ≡ header_asked bytes.now }
-{
-    let Some((header, _)) = bytes.split_first_chunk::<13>() else {
-        return Err(CardFault::Own {
-            no: CardNo::Cut,
-            record: 0,
-            place: 0,
-        });
+    let line = CardLine {
+        number,
+        version: S::VERSION,
+        sheets: card.count(),
     };
-    if &header[0..3] != MARK.as_slice() {
-        return Err(CardFault::Own {
-            no: CardNo::Mark,
-            record: 0,
-            place: 0,
-        });
-    }
-    let version = u16::from_be_bytes([header[3], header[4]]);
-    let number = u64::from_be_bytes([
-        header[5], header[6], header[7], header[8], header[9], header[10], header[11], header[12],
-    ]);
-    Ok(Header { version, number })
+    list_sheets::<B, S>(&card, line.to_string(heap)?)
 }
 
 // What is printed of a card: its version picks the suite.
 fn list_card(heap: Global, key: &[u8; 16], bytes: &[u8]) -> Result<String, Unlisted>
     ensures { Says result (card_listed key.now bytes.now) }
 {
-    let Header { version, number } = read_header(bytes)?;
-    if version == <Spoc64 as Suite<24>>::VERSION {
-        return list_under::<24, Spoc64>(heap, key, number, bytes);
+    let Header { version, number } = Header::try_from(bytes)?;
+    match SuiteName::try_from(u64::from(version)) {
+        Ok(SuiteName::Spoc64) => list_under::<24, Spoc64>(heap, key, number, bytes),
+        Ok(SuiteName::Spoc128) => list_under::<32, Spoc128>(heap, key, number, bytes),
+        Ok(SuiteName::Bench) => list_under::<32, Bench>(heap, key, number, bytes),
+        Err(NoSuchVersion) => Err(Unlisted::Refused(CardNo::Version.at(0, 3))),
     }
-    if version == <Spoc128 as Suite<32>>::VERSION {
-        return list_under::<32, Spoc128>(heap, key, number, bytes);
-    }
-    if version == <Bench as Suite<32>>::VERSION {
-        return list_under::<32, Bench>(heap, key, number, bytes);
-    }
-    Err(Unlisted::Refused(CardFault::Own {
-        no: CardNo::Version,
-        record: 0,
-        place: 3,
-    }))
 }
 
 // A fault of the input's length.
-fn length_fault(fault: SealFault) -> Unlisted
-    ensures { result ≡ Refused (CardFault.Record (RecordFault.Seal (record { fault = fault; «record» = 0; place = 0 }))) }
+fn length_fault(fault: SealFault) -> CardFault
+    ensures { result ≡ CardFault.Record (RecordFault.Seal (at fault 0 0)) }
 {
-    Unlisted::Refused(CardFault::Record(RecordFault::Seal(SealedFault {
-        fault,
-        record: 0,
-        place: 0,
-    })))
+    RecordFault::from(At::new(fault, 0, 0)).into()
 }
 
 // What is printed of an input.
 fn list_input(heap: Global, input: &[u8]) -> Result<String, Unlisted>
     ensures { Says result (input_listed input.now) }
 {
-    let Some((key, bytes)) = input.split_first_chunk::<16>() else {
-        return Err(length_fault(SealFault::KeyLength));
-    };
+    let (key, bytes) = input
+        .split_first_chunk::<16>()
+        .ok_or(length_fault(SealFault::KeyLength))?;
     if input.len() > MOST_INPUT {
-        return Err(length_fault(SealFault::TooLong));
+        return Err(Unlisted::Refused(length_fault(SealFault::TooLong)));
     }
     list_card(heap, key, bytes)
 }
@@ -170,9 +183,8 @@ fn list_input(heap: Global, input: &[u8]) -> Result<String, Unlisted>
 pub fn list(heap: Global, input: &[u8]) -> Result<String, AllocError>
     ensures { IfOk result (λ t. string_bytes t ≡ listing_text input.now) }
 {
-    match list_input(heap, input) {
-        Ok(text) => Ok(text),
-        Err(Unlisted::Refused(fault)) => format!(in heap; "{fault}\n"),
-        Err(Unlisted::Memory) => Err(AllocError),
-    }
+    list_input(heap, input).or_else(|unlisted| match unlisted {
+        Unlisted::Refused(fault) => format!(in heap; "{fault}\n"),
+        Unlisted::Memory(e) => Err(e),
+    })
 }

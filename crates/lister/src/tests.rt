@@ -35,169 +35,121 @@ fn changed(place: usize, byte: u8) -> [u8; 30] {
     card
 }
 
+// Each input of bytes under the key, and its text.
+fn expect_each(rt: &impl Abort, heap: Global, rows: &[(&[u8], &str)]) -> Result<(), Fail> {
+    for (bytes, text) in rows {
+        expect(rt, heap, bytes, text)?;
+    }
+    Ok(())
+}
+
 #[test]
 fn lengths_of_the_input(rt: HostRuntime) -> Result<(), Fail> {
     let heap = rt.alloc();
     let key: &[u8] = KEY;
     let most = vec![in heap; 0; MOST_INPUT]?;
     let more = vec![in heap; 0; MOST_INPUT + 1]?;
-    assert_eq!(rt;
-        list(heap, &[])?.as_str(),
-        "refused 1 layer 1 record 0 place 0\n"
-    );
-    assert_eq!(rt;
-        list(heap, &key[0..15])?.as_str(),
-        "refused 1 layer 1 record 0 place 0\n"
-    );
-    assert_eq!(rt;
-        list(heap, more.as_slice())?.as_str(),
-        "refused 3 layer 1 record 0 place 0\n"
-    );
-    assert_eq!(rt;
-        list(heap, most.as_slice())?.as_str(),
-        "refused 11 layer 3 record 0 place 0\n"
-    );
+    let rows: [(&[u8], &str); 4] = [
+        (&[], "refused 1 layer 1 record 0 place 0\n"),
+        (&key[0..15], "refused 1 layer 1 record 0 place 0\n"),
+        (more.as_slice(), "refused 3 layer 1 record 0 place 0\n"),
+        (most.as_slice(), "refused 11 layer 3 record 0 place 0\n"),
+    ];
+    for (input, text) in rows {
+        assert_eq!(rt; list(heap, input)?.as_str(), text);
+    }
     Ok(())
 }
 
 #[test]
 fn headers(rt: HostRuntime) -> Result<(), Fail> {
-    let heap = rt.alloc();
     let card: &[u8] = CARD;
-    expect(&rt, heap, &[], "refused 10 layer 3 record 0 place 0\n")?;
-    expect(
-        &rt,
-        heap,
-        &card[0..12],
-        "refused 10 layer 3 record 0 place 0\n",
-    )?;
-    expect(
-        &rt,
-        heap,
-        &changed(2, 0x42),
-        "refused 11 layer 3 record 0 place 0\n",
-    )?;
-    expect(
-        &rt,
-        heap,
-        &changed(4, 5),
-        "refused 12 layer 3 record 0 place 3\n",
-    )?;
-    expect(
-        &rt,
-        heap,
-        &changed(3, 1),
-        "refused 12 layer 3 record 0 place 3\n",
-    )
+    let rows: [(&[u8], &str); 5] = [
+        (&[], "refused 10 layer 3 record 0 place 0\n"),
+        (&card[0..12], "refused 10 layer 3 record 0 place 0\n"),
+        (&changed(2, 0x42), "refused 11 layer 3 record 0 place 0\n"),
+        (&changed(4, 5), "refused 12 layer 3 record 0 place 3\n"),
+        (&changed(3, 1), "refused 12 layer 3 record 0 place 3\n"),
+    ];
+    expect_each(&rt, rt.alloc(), &rows)
 }
 
 #[test]
 fn records(rt: HostRuntime) -> Result<(), Fail> {
-    let heap = rt.alloc();
     let card: &[u8] = CARD;
     let mut over = [0; 31];
     over[0..30].copy_from_slice(card);
     let mut long = changed(13, 1);
     long[20] = 0x10;
     long[21] = 1;
-    expect(
-        &rt,
-        heap,
-        card,
-        "card 289360691352306692 version 9 sheets 0\n",
-    )?;
-    expect(
-        &rt,
-        heap,
-        &card[0..21],
-        "refused 10 layer 2 record 0 place 13\n",
-    )?;
-    expect(
-        &rt,
-        heap,
-        &changed(13, 3),
-        "refused 13 layer 2 record 0 place 13\n",
-    )?;
-    expect(&rt, heap, &long, "refused 7 layer 2 record 0 place 20\n")?;
-    expect(
-        &rt,
-        heap,
-        &changed(17, 1),
-        "refused 14 layer 2 record 0 place 14\n",
-    )?;
-    expect(
-        &rt,
-        heap,
-        &card[0..29],
-        "refused 10 layer 2 record 0 place 22\n",
-    )?;
-    expect(
-        &rt,
-        heap,
-        &changed(29, 3),
-        "refused 6 layer 1 record 0 place 22\n",
-    )?;
-    expect(&rt, heap, &over, "refused 15 layer 3 record 0 place 30\n")
+    let rows: [(&[u8], &str); 8] = [
+        (card, "card 289360691352306692 version 9 sheets 0\n"),
+        (&card[0..21], "refused 10 layer 2 record 0 place 13\n"),
+        (&changed(13, 3), "refused 13 layer 2 record 0 place 13\n"),
+        (&long, "refused 7 layer 2 record 0 place 20\n"),
+        (&changed(17, 1), "refused 14 layer 2 record 0 place 14\n"),
+        (&card[0..29], "refused 10 layer 2 record 0 place 22\n"),
+        (&changed(29, 3), "refused 6 layer 1 record 0 place 22\n"),
+        (&over, "refused 15 layer 3 record 0 place 30\n"),
+    ];
+    expect_each(&rt, rt.alloc(), &rows)
 }
 
-// A card of two sheets, and how long it is.
-fn write_two<const B: usize, S: Suite<B> + Drop>(medium: &mut [u8]) -> Result<usize, CardFault> {
+// A card of these sheets, and how long it is: cell, edition and body of each.
+fn write_card<const B: usize, S: Suite<B> + Drop>(
+    medium: &mut [u8],
+    sheets: &[(u32, u16, &[u8])],
+) -> Result<usize, CardFault> {
     let mut writer = Writer::<B, S>::start(KEY, 7, medium)?;
-    writer.append(medium, 3, 1, b"abc")?;
-    writer.append(medium, u32::MAX, u16::MAX, &[])?;
-    match writer.close(medium) {
-        Ok(length) => Ok(length),
-        Err(unclosed) => Err(unclosed.fault),
+    for (cell, edition, body) in sheets {
+        writer.append(medium, *cell, *edition, body)?;
     }
+    Ok(writer.close(medium)?)
+}
+
+// A card of two sheets is listed so.
+fn expect_two<const B: usize, S: Suite<B> + Drop>(
+    rt: &impl Abort,
+    heap: Global,
+    medium: &mut [u8; 100],
+    text: &str,
+) -> Result<(), Fail> {
+    let sheets: [(u32, u16, &[u8]); 2] = [(3, 1, b"abc"), (u32::MAX, u16::MAX, &[])];
+    let length = write_card::<B, S>(medium, &sheets)?;
+    assert!(rt; length <= 100);
+    expect(rt, heap, &medium[0..length], text)
 }
 
 #[test]
 fn two_sheets(rt: HostRuntime) -> Result<(), Fail> {
     let heap = rt.alloc();
     let mut medium = [0; 100];
-    let length = write_two::<24, Spoc64>(&mut medium)?;
-    assert!(rt; length <= 100);
-    expect(
+    expect_two::<24, Spoc64>(
         &rt,
         heap,
-        &medium[0..length],
+        &mut medium,
         "card 7 version 1 sheets 2\nsheet 0 cell 3 edition 1 length 3\nsheet 1 cell 4294967295 edition 65535 length 0\n",
     )?;
-    let length = write_two::<32, Spoc128>(&mut medium)?;
-    assert!(rt; length <= 100);
-    expect(
+    expect_two::<32, Spoc128>(
         &rt,
         heap,
-        &medium[0..length],
+        &mut medium,
         "card 7 version 2 sheets 2\nsheet 0 cell 3 edition 1 length 3\nsheet 1 cell 4294967295 edition 65535 length 0\n",
     )?;
-    let length = write_two::<32, Bench>(&mut medium)?;
-    assert!(rt; length <= 100);
-    expect(
+    expect_two::<32, Bench>(
         &rt,
         heap,
-        &medium[0..length],
+        &mut medium,
         "card 7 version 9 sheets 2\nsheet 0 cell 3 edition 1 length 3\nsheet 1 cell 4294967295 edition 65535 length 0\n",
     )
-}
-
-// A card with as many sheets as there may be.
-fn write_most<const B: usize, S: Suite<B> + Drop>(medium: &mut [u8]) -> Result<usize, CardFault> {
-    let mut writer = Writer::<B, S>::start(KEY, 7, medium)?;
-    for _ in 0..512 {
-        writer.append(medium, 0, 0, &[])?;
-    }
-    match writer.close(medium) {
-        Ok(length) => Ok(length),
-        Err(unclosed) => Err(unclosed.fault),
-    }
 }
 
 #[test]
 fn one_sheet_too_many(rt: HostRuntime) -> Result<(), Fail> {
     let heap = rt.alloc();
     let mut medium = [0; 8734];
-    assert_eq!(rt; write_most::<32, Bench>(&mut medium)?, 8734);
+    let empty: (u32, u16, &[u8]) = (0, 0, &[]);
+    assert_eq!(rt; write_card::<32, Bench>(&mut medium, &[empty; 512])?, 8734);
     let listed = list(heap, input_of(heap, &medium)?.as_slice())?;
     assert!(rt;
         listed.as_str().starts_with(

@@ -1,5 +1,4 @@
 mod Back
-mod Counting
 mod Pairing
 mod Printing
 mod Splitting

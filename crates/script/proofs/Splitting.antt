@@ -1,61 +1,34 @@
--- The first word of a line, by the place of its first space. Assumes nothing.
-use Rattle.std.proofs.Common.{◌≡◌, ℕ, zero, suc, ◌<◌, true, false, cond, eqb, List, [], ◌∷◌, length, get_or, take, drop, Some, None, Ok, Err, sym, refl, ap, ◌∙◌, arith}
-use Rattle.std.proofs.lemmas.Bool.{eq-eqb, ne_eqb, cond-true, cond-false}
-use Rattle.script.specs.declared.unread.Unread.TheVariants.{EmptyWord, TooManyWords}
-use Rattle.script.specs.Words.{first_word, after_space, longer, words, words_in, next_word, next_left, ending}
+-- The words of a line, by the place of its first space.
+use Rattle.std.proofs.Common.{◌≡◌, ℕ, ◌+◌, ◌-◌, ◌≤◌, ◌<◌, Bool, List, [], ◌∷◌, length, take, drop, nat_eq, Some, None, Err, sym, refl, ap, ◌∙◌, arith}
+use Rattle.std.proofs.lemmas.Bool.Decides.{nat_tests}
+use Rattle.std.proofs.lemmas.List.{take_rest}
+use Rattle.std.proofs.lemmas.List.Quantifiers.{position-Some}
+use Rattle.std.proofs.lemmas.List.Splits.{slice_split_first, slice_split_none, length-slice_split}
+use Rattle.std.proofs.lemmas.List.Sums.{position_or_len_is, fails_before_first}
+use Rattle.std.specs.List.{position, position_or_len}
+use Rattle.script.specs.declared.unread.Unread.TheVariants.{TooManyWords}
+use Rattle.script.specs.Words.{words, ending}
 
--- the byte at each of these places is no space
-abbrev pub Solid : List ℕ → ℕ → Type 0
-Solid line n = (k : ℕ) → k < n → get_or line k 0 ≡ 32 → ⊥
+abbrev space : ℕ → Bool
+space b = nat_eq b 32
 
-solid_rest : (b : ℕ) (bs : List ℕ) (n : ℕ) → Solid (b ∷ bs) (suc n) → Solid bs n
-solid_rest b bs n solid k h = solid (suc k) (omega arith)
+pub split_there : (line : List ℕ) (i : ℕ) → position space line ≡ Some i → words line ≡ take i line ∷ words (take (length line - (i + 1)) (drop (i + 1) line))
+split_there line i at =
+    let there = position-Some space line i 0 at in
+    let is : position_or_len space line ≡ i = position_or_len_is space line i 0 (omega (arith, there.0)) there.2 (λ h. there.1) in
+    slice_split_first space line 0 (omega (arith, is, there.0))
+    ∙ ap (λ (n : ℕ). take n line ∷ words (drop (n + 1) line)) is
+    ∙ ap (λ (l : List ℕ). take i line ∷ words l) (sym (take_rest line (i + 1)))
 
-first_solid : (b : ℕ) (bs : List ℕ) → (b ≡ 32 → ⊥) → first_word (b ∷ bs) ≡ b ∷ first_word bs
-first_solid b bs ne = cond-false (eqb b 32) [] (b ∷ first_word bs) (ne_eqb b 32 ne)
+pub split_nowhere : (line : List ℕ) → position space line ≡ None → words line ≡ line ∷ []
+split_nowhere line nowhere =
+    let past : length line ≤ position_or_len space line = grind (arith, nat_tests) in
+    slice_split_none space line (λ k d h. fails_before_first space line k d (omega arith))
 
-after_solid : (b : ℕ) (bs : List ℕ) → (b ≡ 32 → ⊥) → after_space (b ∷ bs) ≡ after_space bs
-after_solid b bs ne = cond-false (eqb b 32) (Some bs) (after_space bs) (ne_eqb b 32 ne)
+some_left : (ws : List (List ℕ)) → 0 < length ws → ending ws ≡ Err TooManyWords
+some_left [] some = absurd (omega arith)
+some_left (w ∷ ws) some = refl
 
-pub first_at : (line : List ℕ) (i : ℕ) → Solid line i → get_or line i 0 ≡ 32 → first_word line ≡ take i line
-first_at [] zero solid space = refl
-first_at [] (suc i) solid space = refl
-first_at (b ∷ bs) zero solid space = cond-true (eqb b 32) [] (b ∷ first_word bs) (eq-eqb b 32 space)
-first_at (b ∷ bs) (suc i) solid space =
-    first_solid b bs (solid 0 (omega arith)) ∙ ap (λ (l : List ℕ). b ∷ l) (first_at bs i (solid_rest b bs i solid) space)
-
-pub after_at : (line : List ℕ) (i : ℕ) → Solid line i → get_or line i 0 ≡ 32 → after_space line ≡ Some (drop (suc i) line)
-after_at [] i solid space = absurd (omega arith)
-after_at (b ∷ bs) zero solid space = cond-true (eqb b 32) (Some bs) (after_space bs) (eq-eqb b 32 space)
-after_at (b ∷ bs) (suc i) solid space = after_solid b bs (solid 0 (omega arith)) ∙ after_at bs i (solid_rest b bs i solid) space
-
-pub first_all : (line : List ℕ) → Solid line (length line) → first_word line ≡ line
-first_all [] solid = refl
-first_all (b ∷ bs) solid =
-    first_solid b bs (solid 0 (omega arith)) ∙ ap (λ (l : List ℕ). b ∷ l) (first_all bs (solid_rest b bs (length bs) solid))
-
-pub after_all : (line : List ℕ) → Solid line (length line) → after_space line ≡ None
-after_all [] solid = refl
-after_all (b ∷ bs) solid = after_solid b bs (solid 0 (omega arith)) ∙ after_all bs (solid_rest b bs (length bs) solid)
-
--- the words of a line are its first word and those after the space
-pub words_split : (line : List ℕ) → words line ≡ first_word line ∷ words_in (after_space line)
-words_split [] = refl
-words_split (b ∷ bs) =
-    elim (eqb b 32) as (λ t. cond t ([] ∷ words bs) (longer b (words bs)) ≡ cond t [] (b ∷ first_word bs) ∷ words_in (cond t (Some bs) (after_space bs)))
-    [ true ↦ refl | false ↦ ap (longer b) (words_split bs) ]
-
--- what that says of the next word, of the words after it, and of the end
-pub next_none : (line w : List ℕ) → w ≡ first_word line → length w ≡ 0 → next_word (words line) ≡ Err EmptyWord
-next_none line [] e none = ap next_word (words_split line ∙ ap (λ (x : List ℕ). x ∷ words_in (after_space line)) (sym e))
-next_none line (b ∷ w) e none = absurd (omega arith)
-
-pub next_some : (line w : List ℕ) → w ≡ first_word line → 0 < length w → next_word (words line) ≡ Ok w
-next_some line [] e some = absurd (omega arith)
-next_some line (b ∷ w) e some = ap next_word (words_split line ∙ ap (λ (x : List ℕ). x ∷ words_in (after_space line)) (sym e))
-
-pub next_rest : (line : List ℕ) → next_left (words line) ≡ words_in (after_space line)
-next_rest line = ap next_left (words_split line)
-
+-- there is always a word left
 pub not_ending : (line : List ℕ) → ending (words line) ≡ Err TooManyWords
-not_ending line = ap ending (words_split line)
+not_ending line = some_left (words line) (omega (arith, length-slice_split space line))

@@ -1,15 +1,20 @@
 -- A line that ends in a carriage return, and one that does not. Assumes nothing.
-use Rattle.std.proofs.Common.{◌≡◌, ℕ, eqb, List, [], ◌∷◌, ◌++◌, refl, ap}
+use Rattle.std.proofs.Common.{◌≡◌, ◌≢◌, ℕ, eqb, List, [], ◌∷◌, ◌++◌, Some, None, Option, MatchOption, unwrap_or, Bor, sym, refl, ap, ◌∙◌}
 use Rattle.std.proofs.lemmas.Bool.{ne_eqb, cond-false}
 use Rattle.script.specs.Lines.{trimmed}
 
-pub trimmed_return : (line : List ℕ) → trimmed (line ++ 13 ∷ []) ≡ line
+trimmed_return : (line : List ℕ) → trimmed (line ++ 13 ∷ []) ≡ line
 trimmed_return [] = refl
 trimmed_return (b ∷ []) = refl
 trimmed_return (b ∷ c ∷ bs) = ap (λ (l : List ℕ). b ∷ l) (trimmed_return (c ∷ bs))
 
-pub trimmed_same : (line : List ℕ) → ((front : List ℕ) → line ≡ front ++ 13 ∷ [] → ⊥) → trimmed line ≡ line
+trimmed_same : (line : List ℕ) → ((front : List ℕ) → line ≡ front ++ 13 ∷ [] → ⊥) → trimmed line ≡ line
 trimmed_same [] other = refl
 trimmed_same (b ∷ []) other = cond-false (eqb b 13) [] (b ∷ []) (ne_eqb b 13 (λ e. other [] (ap (λ (x : ℕ). x ∷ []) e)))
 trimmed_same (b ∷ c ∷ bs) other =
     ap (λ (l : List ℕ). b ∷ l) (trimmed_same (c ∷ bs) (λ front e. other (b ∷ front) (ap (λ (l : List ℕ). b ∷ l) e)))
+
+-- what is left where a carriage return was taken off the end, and the line where there is none
+pub trimmed_rest : (line : Bor (List ℕ)) (rest : Option (Bor (List ℕ))) → MatchOption rest ((front : List ℕ) → line.now ≢ front ++ 13 ∷ []) (λ x. line.now ≡ x.now ++ 13 ∷ []) → (unwrap_or rest line).now ≡ trimmed line.now
+trimmed_rest line None other = sym (trimmed_same line.now other)
+trimmed_rest line (Some x) is = sym (ap trimmed is ∙ trimmed_return x.now)

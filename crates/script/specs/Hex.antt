@@ -1,7 +1,7 @@
 -- Bytes as hexadecimal pairs: read in either case, written in capitals. Assumes nothing.
 use Rattle.std.specs.Prelude.{◌≡◌, ℕ, ◌+◌, ◌-◌, ◌*◌, ◌/◌, ◌%◌, ◌<◌, cond, List, [], ◌∷◌, Ok, Err, Result, nat_lt}
 use Rattle.std.specs.Int.{is_in_range}
-use Rattle.std.specs.List.{AllByRecursion}
+use Rattle.std.specs.List.{AllByRecursion, flat_map}
 use Rattle.std.specs.Str.{bytes_eq}
 use Rattle.script.specs.declared.unread.Unread.{Unread}
 use Rattle.script.specs.declared.unread.Unread.TheVariants.{EmptyWord, OddDigits, WrongDigit}
@@ -40,8 +40,7 @@ upper d = cond (nat_lt d 10) (48 + d) (55 + d)
 
 -- two digits for each byte
 abbrev pub hex_pairs : List ℕ → List ℕ
-hex_pairs [] = []
-hex_pairs (b ∷ bs) = upper (b / 16) ∷ upper (b % 16) ∷ hex_pairs bs
+hex_pairs = flat_map (λ b. upper (b / 16) ∷ upper (b % 16) ∷ [])
 
 -- bytes as they are printed
 abbrev pub hex_text : List ℕ → List ℕ

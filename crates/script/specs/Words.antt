@@ -1,30 +1,15 @@
 -- The words of a line, split at each space. Assumes nothing.
-use Rattle.std.specs.Prelude.{◌≡◌, ℕ, cond, List, [], ◌∷◌, Some, None, Ok, Err, Option, Result, MatchResult, ◌==◌}
+use Rattle.std.specs.Prelude.{◌≡◌, ℕ, List, [], ◌∷◌, Some, None, Ok, Err, Option, Result, MatchResult, ◌==◌}
 use Rattle.std.specs.Borrow.{Bor}
+use Rattle.std.specs.List.{slice_split}
 use Rattle.std.specs.Option.{option_map}
 use Rattle.script.specs.declared.unread.Unread.{Unread}
 use Rattle.script.specs.declared.unread.Unread.TheVariants.{TooFewWords, TooManyWords, EmptyWord}
 use Rattle.script.specs.declared.words.Words.{Words}
 
--- what stands before the first space
-abbrev pub first_word : List ℕ → List ℕ
-first_word [] = []
-first_word (b ∷ bs) = cond (b == 32) [] (b ∷ first_word bs)
-
--- what stands after the first space, if there is one
-abbrev pub after_space : List ℕ → Option (List ℕ)
-after_space [] = None
-after_space (b ∷ bs) = cond (b == 32) (Some bs) (after_space bs)
-
--- one more byte before the first of some words
-abbrev pub longer : ℕ → List (List ℕ) → List (List ℕ)
-longer b [] = (b ∷ []) ∷ []
-longer b (w ∷ ws) = (b ∷ w) ∷ ws
-
 -- a line split at each space: one word more than there are spaces
 abbrev pub words : List ℕ → List (List ℕ)
-words [] = [] ∷ []
-words (b ∷ bs) = cond (b == 32) ([] ∷ words bs) (longer b (words bs))
+words = slice_split (λ b. b == 32)
 
 -- the words of what is left of a line, if anything is
 abbrev pub words_in : Option (List ℕ) → List (List ℕ)

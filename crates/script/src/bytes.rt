@@ -3,7 +3,6 @@ ghost use Rattle.script.specs.Hex.{hex_digit, byte_of, pairs, bytes_of, upper, h
 ghost use Rattle.script.specs.Reasons.{Holds};
 
 use crate::unread::Unread;
-use crate::words::is_word;
 use std::alloc::Global;
 use std::fmt;
 
@@ -12,12 +11,8 @@ fn digit_value(b: u8) -> Result<u8, Unread>
     ensures value { result ≡ hex_digit b }
     ensures bound { IfOk result (λ d. d < 16) }
 {
-    match b {
-        b'0'..=b'9' => Ok(b - b'0'),
-        b'A'..=b'F' => Ok(b - b'A' + 10),
-        b'a'..=b'f' => Ok(b - b'a' + 10),
-        _ => Err(Unread::WrongDigit),
-    }
+    let digit = char::from(b).to_digit(16).ok_or(Unread::WrongDigit)?;
+    Ok(digit as u8)
 }
 
 // The byte of two digits.
@@ -33,37 +28,24 @@ fn read_pairs(heap: Global, digits: &[u8]) -> Result<Vec<u8>, Unread>
 {
     let mut bytes = Vec::new(heap);
     for pair in digits.chunks(2) {
-        if pair.len() < 2 {
+        let [high, low] = pair else {
             return Err(Unread::OddDigits);
-        }
-        bytes.push(read_pair(pair[0], pair[1])?)?;
+        };
+        bytes.push(read_pair(*high, *low)?)?;
     }
     Ok(bytes)
 }
 
 // Reads hexadecimal pairs, in either case, and - for no bytes. Bytes that are printed read back.
+#[tactic(auto, using(crate::proofs::Back::reads_back))]
 pub fn read_bytes(heap: Global, word: &[u8]) -> Result<Vec<u8>, Unread>
     ensures bytes { Holds vec_items result (bytes_of word.now) }
     ensures law { ReadsBack }
 {
-    if word.is_empty() {
-        return Err(Unread::EmptyWord);
-    }
-    if is_word(word, "-") {
-        return Ok(Vec::new(heap));
-    }
-    read_pairs(heap, word)
-}
-
-// A digit below 16, in capitals.
-fn digit_char(d: u8) -> char
-    requires { d < 16 }
-    ensures { result ≡ upper d }
-{
-    if d < 10 {
-        (b'0' + d) as char
-    } else {
-        (b'A' + (d - 10)) as char
+    match word {
+        [] => Err(Unread::EmptyWord),
+        b"-" => Ok(Vec::new(heap)),
+        _ => read_pairs(heap, word),
     }
 }
 
@@ -76,11 +58,10 @@ impl fmt::Display for Hex<'_> {
 
     fn fmt<W: fmt::Write>(&self, f: &mut fmt::Formatter<W>) -> fmt::Result {
         if self.0.is_empty() {
-            return f.write_char('-');
+            return f.write_str("-");
         }
-        for b in self.0 {
-            f.write_char(digit_char(*b / 16))?;
-            f.write_char(digit_char(*b % 16))?;
+        for &b in self.0 {
+            write!(f, "{b:02X}")?;
         }
         Ok(())
     }

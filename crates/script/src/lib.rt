@@ -12,9 +12,7 @@ mod words;
 
 pub use bytes::{Hex, read_bytes};
 pub use line::{is_silent, without_return};
-pub use names::{
-    CallName, CipherCall, PermutationCall, PermutationName, read_call, read_permutation,
-};
+pub use names::{CallName, CipherCall, PermutationCall, PermutationName};
 pub use number::read_number;
 pub use unread::Unread;
 pub use words::Words;

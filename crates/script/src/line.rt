@@ -5,10 +5,7 @@ ghost use Rattle.script.specs.Lines.{silent, trimmed};
 pub fn without_return(line: &[u8]) -> &[u8]
     ensures { result.now ≡ trimmed line.now }
 {
-    match line.strip_suffix(b"\r") {
-        Some(rest) => rest,
-        None => line,
-    }
+    line.strip_suffix(b"\r").unwrap_or(line)
 }
 
 // Whether a line asks nothing: it is empty, or a comment.

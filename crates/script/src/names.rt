@@ -2,7 +2,6 @@ ghost use Rattle.std.specs.Prelude.{◌≡◌, Some};
 ghost use Rattle.script.specs.Names.{call_named, permutation_named, name_text};
 
 use crate::unread::Unread;
-use crate::words::is_word;
 use std::fmt;
 
 // A call on a state of a permutation.
@@ -29,26 +28,22 @@ pub enum CallName {
     Cipher(CipherCall),
 }
 
-// Reads the name of a call.
-pub fn read_call(word: &[u8]) -> Result<CallName, Unread>
-    ensures { result ≡ call_named word.now }
-{
-    if is_word(word, "forward") {
-        Ok(CallName::Permutation(PermutationCall::Forward))
-    } else if is_word(word, "back") {
-        Ok(CallName::Permutation(PermutationCall::Back))
-    } else if is_word(word, "trace") {
-        Ok(CallName::Permutation(PermutationCall::Trace))
-    } else if is_word(word, "seal") {
-        Ok(CallName::Cipher(CipherCall::Seal))
-    } else if is_word(word, "open") {
-        Ok(CallName::Cipher(CipherCall::Open))
-    } else if is_word(word, "seal-into") {
-        Ok(CallName::Cipher(CipherCall::SealInto))
-    } else if is_word(word, "open-into") {
-        Ok(CallName::Cipher(CipherCall::OpenInto))
-    } else {
-        Err(Unread::UnknownCall)
+impl TryFrom<&[u8]> for CallName {
+    type Error = Unread;
+
+    ghost try_from_gives = { λ word r. r ≡ call_named word.now };
+
+    fn try_from(word: &[u8]) -> Result<CallName, Unread> {
+        match word {
+            b"forward" => Ok(CallName::Permutation(PermutationCall::Forward)),
+            b"back" => Ok(CallName::Permutation(PermutationCall::Back)),
+            b"trace" => Ok(CallName::Permutation(PermutationCall::Trace)),
+            b"seal" => Ok(CallName::Cipher(CipherCall::Seal)),
+            b"open" => Ok(CallName::Cipher(CipherCall::Open)),
+            b"seal-into" => Ok(CallName::Cipher(CipherCall::SealInto)),
+            b"open-into" => Ok(CallName::Cipher(CipherCall::OpenInto)),
+            _ => Err(Unread::UnknownCall),
+        }
     }
 }
 
@@ -81,17 +76,17 @@ impl fmt::Display for PermutationName {
     }
 }
 
-// Reads the name of a permutation.
-pub fn read_permutation(word: &[u8]) -> Result<PermutationName, Unread>
-    ensures { result ≡ permutation_named word.now }
-{
-    if is_word(word, PermutationName::Light192.text()) {
-        Ok(PermutationName::Light192)
-    } else if is_word(word, PermutationName::Light256.text()) {
-        Ok(PermutationName::Light256)
-    } else if is_word(word, PermutationName::Bench.text()) {
-        Ok(PermutationName::Bench)
-    } else {
-        Err(Unread::UnknownPermutation)
+impl TryFrom<&[u8]> for PermutationName {
+    type Error = Unread;
+
+    ghost try_from_gives = { λ word r. r ≡ permutation_named word.now };
+
+    fn try_from(word: &[u8]) -> Result<PermutationName, Unread> {
+        match word {
+            b"192" => Ok(PermutationName::Light192),
+            b"256" => Ok(PermutationName::Light256),
+            b"bench" => Ok(PermutationName::Bench),
+            _ => Err(Unread::UnknownPermutation),
+        }
     }
 }

@@ -1,13 +1,34 @@
-ghost use Rattle.std.specs.Prelude.{◌≡◌};
-ghost use Rattle.script.specs.Numbers.{grown, number_of};
+ghost use Rattle.std.specs.Prelude.{◌≡◌, ◌+◌, ◌*◌, ◌^◌, ◌≤◌, All, IfSome, IfNone};
+ghost use Rattle.std.specs.Char.{is_ascii_digit};
+ghost use Rattle.std.specs.List.{list_all};
+ghost use Rattle.script.specs.Numbers.{value_after, number_of};
 
 use crate::unread::Unread;
 
-// A number with one digit more at its end, where that fits 64 bits.
-fn with_digit(number: Option<u64>, digit: u8) -> Option<u64>
-    ensures { result ≡ grown number digit }
+// Whether there are digits alone.
+fn are_digits(word: &[u8]) -> bool
+    ensures { result ≡ list_all is_ascii_digit word.now }
 {
-    number?.checked_mul(10)?.checked_add(u64::from(digit))
+    word.iter().all(u8::is_ascii_digit)
+}
+
+// A number with one digit more at its end, where that fits 64 bits.
+fn with_digit(number: u64, digit: u8) -> Option<u64>
+    ensures fits { IfSome result (λ n. n ≡ number * 10 + digit) }
+    ensures none { IfNone result (2 ^ 64 ≤ number * 10 + digit) }
+{
+    number.checked_mul(10)?.checked_add(u64::from(digit))
+}
+
+// The value of digits, where it fits 64 bits.
+fn value_of(digits: &[u8]) -> Option<u64>
+    requires { All (λ b. 48 ≤ b) digits.now }
+    ensures fits { IfSome result (λ n. n ≡ value_after 0 digits.now) }
+    ensures none { IfNone result (2 ^ 64 ≤ value_after 0 digits.now) }
+{
+    digits
+        .iter()
+        .try_fold(0, |number, b| with_digit(number, *b - b'0'))
 }
 
 // Reads a decimal number of at most 64 bits.
@@ -17,12 +38,8 @@ pub fn read_number(word: &[u8]) -> Result<u64, Unread>
     if word.is_empty() {
         return Err(Unread::EmptyWord);
     }
-    let mut number = Some(0);
-    for b in word {
-        if !b.is_ascii_digit() {
-            return Err(Unread::NotANumber);
-        }
-        number = with_digit(number, *b - b'0');
+    if !are_digits(word) {
+        return Err(Unread::NotANumber);
     }
-    number.ok_or(Unread::NumberTooLarge)
+    value_of(word).ok_or(Unread::NumberTooLarge)
 }

@@ -1,28 +1,24 @@
-ghost use Rattle.std.specs.Prelude.{◌≡◌};
+ghost use Rattle.std.specs.Prelude.{◌≡◌, ◌==◌, ◌∷◌, position};
 ghost use Rattle.std.specs.Option.{option_map};
-ghost use Rattle.std.specs.Str.{bytes_eq};
-ghost use Rattle.script.specs.Words.{first_word, after_space, words, left, next_word, next_left, ending, Gives};
+ghost use Rattle.script.specs.Words.{words, words_in, left, next_word, next_left, ending, Gives};
 
 use crate::unread::Unread;
 
-// Whether a word is this text.
-pub(crate) fn is_word(word: &[u8], text: &str) -> bool
-    ensures { result ≡ bytes_eq word.now text.now }
+// The place of the first space.
+fn first_space(line: &[u8]) -> Option<usize>
+    ensures { result ≡ position (λ b. b == 32) line.now }
 {
-    word == text.as_bytes()
+    line.iter().position(|b| *b == b' ')
 }
 
 // The first word of a line, and what follows the space after it.
 fn split_word(line: &[u8]) -> (&[u8], Option<&[u8]>)
-    ensures word { result.0.now ≡ first_word line.now }
-    ensures rest { option_map (λ x. x.now) result.1 ≡ after_space line.now }
+    ensures { words line.now ≡ result.0.now ∷ words_in (option_map (λ x. x.now) result.1) }
 {
-    for i in 0..line.len() {
-        if line[i] == b' ' {
-            return (&line[0..i], Some(&line[i + 1..]));
-        }
+    match first_space(line) {
+        Some(i) => (&line[..i], Some(&line[i + 1..])),
+        None => (line, None),
     }
-    (line, None)
 }
 
 // The words of a line that are not read yet: the line is split at each space.
@@ -43,10 +39,7 @@ impl<'a> Words<'a> {
         ensures answer { Gives result (next_word (left self.old)) }
         ensures left { left self.new ≡ next_left (left self.old) }
     {
-        let Some(rest) = self.rest else {
-            return Err(Unread::TooFewWords);
-        };
-        let (word, rest) = split_word(rest);
+        let (word, rest) = split_word(self.rest.ok_or(Unread::TooFewWords)?);
         self.rest = rest;
         if word.is_empty() {
             return Err(Unread::EmptyWord);

@@ -1,7 +1,6 @@
-use crate::clock::{RUNS, each};
-use anyhow::anyhow;
+use crate::clock::{each, least_time};
+use anyhow::ensure;
 use permutations::{Light192, Light256, Permutation};
-use std::time::Instant;
 
 // How many calls are timed at once.
 const CALLS: u32 = 100_000;
@@ -13,48 +12,25 @@ pub struct Times {
     pub back: u128,
 }
 
-fn forward_again<const B: usize, P: Permutation<B>>(state: &mut [u8; B]) {
-    for _ in 0..CALLS {
-        P::forward(state);
-    }
-}
-
-fn back_again<const B: usize, P: Permutation<B>>(state: &mut [u8; B]) {
-    for _ in 0..CALLS {
-        P::back(state);
-    }
-}
-
-// One run, forward and then back.
-fn run<const B: usize, P: Permutation<B>>(
-    rt: &HostRuntime,
-    state: &mut [u8; B],
-) -> anyhow::Result<Times> {
-    let start = Instant::now(rt)?;
-    forward_again::<B, P>(state);
-    let forward = each(start.elapsed(rt)?, CALLS);
-    let start = Instant::now(rt)?;
-    back_again::<B, P>(state);
-    let back = each(start.elapsed(rt)?, CALLS);
-    Ok(Times { forward, back })
-}
-
-// The least of some runs, after which the state is as it was.
+// Times forward and then back, after which the state is as it was.
 pub fn time<const B: usize, P: Permutation<B>>(
     rt: &HostRuntime,
     state: &mut [u8; B],
 ) -> anyhow::Result<Times> {
     let begun = *state;
-    let mut least = run::<B, P>(rt, state)?;
-    for _ in 1..RUNS {
-        let times = run::<B, P>(rt, state)?;
-        least.forward = least.forward.min(times.forward);
-        least.back = least.back.min(times.back);
-    }
-    if *state != begun {
-        return Err(anyhow!("back did not undo forward"));
-    }
-    Ok(least)
+    let forward = least_time(rt, CALLS, || {
+        P::forward(state);
+        Ok(())
+    })?;
+    let back = least_time(rt, CALLS, || {
+        P::back(state);
+        Ok(())
+    })?;
+    ensure!(*state == begun, "back did not undo forward");
+    Ok(Times {
+        forward: each(forward, CALLS),
+        back: each(back, CALLS),
+    })
 }
 
 pub fn permutations(rt: &HostRuntime) -> anyhow::Result<()> {

@@ -5,8 +5,12 @@ use Rattle.permutations.specs.Light.{light_192, light_256, walk_192, walk_256}
 use Rattle.permutations.specs.Permutation.{Perm, Walk, stepped}
 use Rattle.script.specs.Hex.{bytes_of, hex_text}
 use Rattle.spoc.specs.Bench.{bench_plan}
+use Rattle.spoc.specs.Name.{suite_of}
 use Rattle.spoc.specs.Spoc128.{spoc_128}
 use Rattle.spoc.specs.Spoc64.{spoc_64}
+use Rattle.spoc.specs.declared.NoSuchVersion.{NoSuchVersion}
+use Rattle.spoc.specs.declared.SuiteName.{SuiteName}
+use Rattle.spoc.specs.declared.SuiteName.TheVariants.{Spoc64, Spoc128, Bench as SuiteBench}
 use Rattle.script.specs.Lines.{silent, trimmed}
 use Rattle.script.specs.Names.{call_named, permutation_named}
 use Rattle.script.specs.Numbers.{number_of}
@@ -59,16 +63,16 @@ permutation_asked call ws =
     with_next bytes_of ws (λ s ws.
     with_read (ending ws) (λ _. named_answer of call s)))
 
--- the suite that a version stands for
-abbrev pub versioned : ℕ → CipherCall → List (List ℕ) → Result (List ℕ) Unread
-versioned v call ws =
-    cond (v == spoc_64.version) (cipher_asked light_192 spoc_64 call ws)
-    (cond (v == spoc_128.version) (cipher_asked light_256 spoc_128 call ws)
-    (cond (v == bench_plan.version) (cipher_asked bench bench_plan call ws) (Err UnknownVersion)))
+-- a call of the cipher over the suite of a version, if there is one
+abbrev pub versioned : Result SuiteName NoSuchVersion → CipherCall → List (List ℕ) → Result (List ℕ) Unread
+versioned (Ok Spoc64) = cipher_asked light_192 spoc_64
+versioned (Ok Spoc128) = cipher_asked light_256 spoc_128
+versioned (Ok SuiteBench) = cipher_asked bench bench_plan
+versioned (Err e) = λ call ws. Err UnknownVersion
 
 -- a call of the cipher reads a version first
 abbrev pub version_asked : CipherCall → List (List ℕ) → Result (List ℕ) Unread
-version_asked call ws = with_next number_of ws (λ v ws. versioned v call ws)
+version_asked call ws = with_next number_of ws (λ v ws. versioned (suite_of v) call ws)
 
 -- each kind of call reads its own words
 abbrev pub call_asked : CallName → List (List ℕ) → Result (List ℕ) Unread

@@ -81,22 +81,21 @@ inputs_of ws =
     with_next bytes_of ws (λ d ws.
     with_next bytes_of ws (λ t ws. Ok (record { key = k; nonce = n; associated = d; text = t }, ws)))))
 
--- each call of the cipher over a suite, from the words after the version
-abbrev pub cipher_asked : Perm → Plan → CipherCall → List (List ℕ) → Result (List ℕ) Unread
-cipher_asked p q Seal ws =
-    with_read (inputs_of ws) (λ g.
-    with_read (ending g.1) (λ _. Ok (seal_text (seal_with p q g.0 (length g.0.text) q.rate))))
-cipher_asked p q Open ws =
-    with_read (inputs_of ws) (λ g.
-    with_next bytes_of g.1 (λ tag ws.
-    with_read (ending ws) (λ _. Ok (open_text (open_with p q g.0 tag (length g.0.text))))))
-cipher_asked p q SealInto ws =
-    with_read (inputs_of ws) (λ g.
-    with_next number_of g.1 (λ room ws.
-    with_next number_of ws (λ width ws.
-    with_read (ending ws) (λ _. Ok (seal_into_text (seal_with p q g.0 room width))))))
-cipher_asked p q OpenInto ws =
-    with_read (inputs_of ws) (λ g.
-    with_next bytes_of g.1 (λ tag ws.
+-- each call of the cipher over a suite: its own words, after those
+abbrev pub given_asked : Perm → Plan → CipherCall → Inputs → List (List ℕ) → Result (List ℕ) Unread
+given_asked p q Seal g ws = with_read (ending ws) (λ _. Ok (seal_text (seal_with p q g (length g.text) q.rate)))
+given_asked p q Open g ws =
+    with_next bytes_of ws (λ tag ws.
+    with_read (ending ws) (λ _. Ok (open_text (open_with p q g tag (length g.text)))))
+given_asked p q SealInto g ws =
     with_next number_of ws (λ room ws.
-    with_read (ending ws) (λ _. Ok (open_into_text (open_with p q g.0 tag room))))))
+    with_next number_of ws (λ width ws.
+    with_read (ending ws) (λ _. Ok (seal_into_text (seal_with p q g room width)))))
+given_asked p q OpenInto g ws =
+    with_next bytes_of ws (λ tag ws.
+    with_next number_of ws (λ room ws.
+    with_read (ending ws) (λ _. Ok (open_into_text (open_with p q g tag room)))))
+
+-- a call of the cipher over a suite, from the words after the version
+abbrev pub cipher_asked : Perm → Plan → CipherCall → List (List ℕ) → Result (List ℕ) Unread
+cipher_asked p q call ws = with_read (inputs_of ws) (λ g. given_asked p q call g.0 g.1)

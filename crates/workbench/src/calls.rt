@@ -1,4 +1,4 @@
-ghost use Rattle.std.specs.Prelude.{◌≡◌, IfOk, string_bytes};
+ghost use Rattle.std.specs.Prelude.{◌≡◌, IfOk, Some, string_bytes};
 ghost use Rattle.script.specs.Reasons.{Holds};
 ghost use Rattle.script.specs.Words.{words, left};
 ghost use Rattle.workbench.specs.Printed.{state_text, step_text, trace_text, call_answer, permutation_asked, version_asked, asked, MayPrint};
@@ -7,10 +7,12 @@ use crate::cipher::call_cipher;
 use permutations::{Bench, Light192, Light256, Permutation, Stepped};
 use script::{
     CallName, CipherCall, Hex, PermutationCall, PermutationName, Unread, Words, is_silent,
-    read_bytes, read_call, read_number, read_permutation, without_return,
+    read_bytes, read_number, without_return,
 };
-use spoc::{Spoc64, Spoc128, Suite};
+use spoc::{NoSuchVersion, Spoc64, Spoc128, Suite, SuiteName};
 use std::alloc::{AllocError, Global};
+use std::fmt;
+use std::fmt::Write;
 
 // The line that shows a state.
 fn state_line(heap: Global, state: &[u8]) -> Result<String, AllocError>
@@ -20,32 +22,20 @@ fn state_line(heap: Global, state: &[u8]) -> Result<String, AllocError>
     format!(in heap; "state {state}\n")
 }
 
-fn forward<const B: usize, P: Permutation<B>>(
-    heap: Global,
-    mut state: [u8; B],
-) -> Result<String, AllocError>
-    ensures { IfOk result (λ t. string_bytes t ≡ state_text (P.Bijection.meaning.forward state.entry)) }
-{
-    P::forward(&mut state);
-    state_line(heap, &state)
+// A line of a trace: the state after so many steps.
+#[derive(Clone, Copy)]
+struct Step<'a> {
+    number: usize,
+    state: Hex<'a>,
 }
 
-fn back<const B: usize, P: Permutation<B>>(
-    heap: Global,
-    mut state: [u8; B],
-) -> Result<String, AllocError>
-    ensures { IfOk result (λ t. string_bytes t ≡ state_text (P.Bijection.meaning.back state.entry)) }
-{
-    P::back(&mut state);
-    state_line(heap, &state)
-}
+impl fmt::Display for Step<'_> {
+    ghost output = { λ s. Some (step_text s.number s.state.0.now) };
 
-// The line that shows the state after i steps.
-fn step_line(heap: Global, i: usize, state: &[u8]) -> Result<String, AllocError>
-    ensures { IfOk result (λ t. string_bytes t ≡ step_text i state.now) }
-{
-    let state = Hex(state);
-    format!(in heap; "step {i} {state}\n")
+    fn fmt<W: fmt::Write>(&self, f: &mut fmt::Formatter<W>) -> fmt::Result {
+        let Step { number, state } = self;
+        writeln!(f, "step {number} {state}")
+    }
 }
 
 // The state, and the state after each step.
@@ -55,10 +45,18 @@ fn trace<const B: usize, P: Stepped<B>>(
 ) -> Result<String, AllocError>
     ensures { IfOk result (λ t. string_bytes t ≡ trace_text P.Steps.walk P.Steps.walk.count state.entry) }
 {
-    let mut text = step_line(heap, 0, &state)?;
+    let begun = Step {
+        number: 0,
+        state: Hex(&state),
+    };
+    let mut text = begun.to_string(heap)?;
     for i in 0..P::steps() {
         let _ = P::step(&mut state, i);
-        text.push_str(step_line(heap, i + 1, &state)?.as_str())?;
+        let step = Step {
+            number: i + 1,
+            state: Hex(&state),
+        };
+        write!(text, "{step}")?;
     }
     Ok(text)
 }
@@ -73,16 +71,20 @@ fn call_on<const B: usize, P: Stepped<B>>(
     ensures { Holds string_bytes result (call_answer of P.Bijection.meaning P.Steps.walk call bytes.now) }
 {
     P::sized();
-    let Ok(state) = <[u8; B]>::try_from(bytes) else {
-        return Err(Unread::StateLength {
-            of,
-            expected: B,
-            found: bytes.len(),
-        });
-    };
+    let mut state = <[u8; B]>::try_from(bytes).ok().ok_or(Unread::StateLength {
+        of,
+        expected: B,
+        found: bytes.len(),
+    })?;
     let text = match call {
-        PermutationCall::Forward => forward::<B, P>(heap, state)?,
-        PermutationCall::Back => back::<B, P>(heap, state)?,
+        PermutationCall::Forward => {
+            P::forward(&mut state);
+            state_line(heap, &state)?
+        }
+        PermutationCall::Back => {
+            P::back(&mut state);
+            state_line(heap, &state)?
+        }
         PermutationCall::Trace => trace::<B, P>(heap, state)?,
     };
     Ok(text)
@@ -92,7 +94,7 @@ fn call_on<const B: usize, P: Stepped<B>>(
 fn call_permutation(heap: Global, call: PermutationCall, mut words: Words) -> Result<String, Unread>
     ensures { Holds string_bytes result (permutation_asked call (left words.entry)) }
 {
-    let of = read_permutation(words.next_word()?)?;
+    let of = PermutationName::try_from(words.next_word()?)?;
     let bytes = read_bytes(heap, words.next_word()?)?;
     words.finish()?;
     match of {
@@ -107,14 +109,11 @@ fn call_version(heap: Global, call: CipherCall, mut words: Words) -> Result<Stri
     ensures { Holds string_bytes result (version_asked call (left words.entry)) }
 {
     let version = read_number(words.next_word()?)?;
-    if version == u64::from(<Spoc64 as Suite<24>>::VERSION) {
-        call_cipher::<24, Spoc64>(heap, call, words)
-    } else if version == u64::from(<Spoc128 as Suite<32>>::VERSION) {
-        call_cipher::<32, Spoc128>(heap, call, words)
-    } else if version == u64::from(<Bench as Suite<32>>::VERSION) {
-        call_cipher::<32, Bench>(heap, call, words)
-    } else {
-        Err(Unread::UnknownVersion)
+    match SuiteName::try_from(version) {
+        Ok(SuiteName::Spoc64) => call_cipher::<24, Spoc64>(heap, call, words),
+        Ok(SuiteName::Spoc128) => call_cipher::<32, Spoc128>(heap, call, words),
+        Ok(SuiteName::Bench) => call_cipher::<32, Bench>(heap, call, words),
+        Err(NoSuchVersion) => Err(Unread::UnknownVersion),
     }
 }
 
@@ -123,7 +122,7 @@ fn read_and_call(heap: Global, line: &[u8]) -> Result<String, Unread>
     ensures { Holds string_bytes result (asked (words line.now)) }
 {
     let mut words = Words::new(line);
-    match read_call(words.next_word()?)? {
+    match CallName::try_from(words.next_word()?)? {
         CallName::Permutation(call) => call_permutation(heap, call, words),
         CallName::Cipher(call) => call_version(heap, call, words),
     }
@@ -137,8 +136,5 @@ pub fn answer(heap: Global, line: &[u8]) -> Result<String, AllocError>
     if is_silent(line) {
         return Ok(String::new(heap));
     }
-    match read_and_call(heap, line) {
-        Ok(text) => Ok(text),
-        Err(reason) => format!(in heap; "unread: {reason}\n"),
-    }
+    read_and_call(heap, line).or_else(|reason| format!(in heap; "unread: {reason}\n"))
 }

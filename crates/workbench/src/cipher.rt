@@ -1,12 +1,14 @@
-ghost use Rattle.std.specs.Prelude.{◌≡◌, IfOk, string_bytes};
+ghost use Rattle.std.specs.Prelude.{◌≡◌, IfOk, Some, string_bytes};
 ghost use Rattle.script.specs.Reasons.{Holds};
 ghost use Rattle.script.specs.Words.{left};
 ghost use Rattle.script.specs.declared.CipherCall.TheVariants.{Seal, Open, SealInto, OpenInto};
-ghost use Rattle.workbench.specs.Sealings.{inputs_in, seal_in, open_in, fresh, seal_with, open_with, refused_text, first_line, seal_text, open_text, seal_into_text, open_into_text, inputs_of, cipher_asked};
+ghost use Rattle.spoc.specs.Fault.{fault_number, fault_layer};
+ghost use Rattle.workbench.specs.Sealings.{inputs_in, seal_in, open_in, seal_with, open_with, refused_text, first_line, seal_text, open_text, seal_into_text, open_into_text, inputs_of, given_asked, cipher_asked};
 
 use script::{CipherCall, Hex, Unread, Words, read_bytes, read_number};
 use spoc::{SealFault, Suite, open, seal};
 use std::alloc::{AllocError, Global};
+use std::fmt;
 
 // What a buffer is filled with before a call.
 const FILLER: u8 = 0xA5;
@@ -36,19 +38,111 @@ fn read_given(heap: Global, words: &mut Words) -> Result<Given, Unread>
     })
 }
 
-// A buffer of n bytes before a call.
-fn new_buffer(heap: Global, n: usize) -> Result<Vec<u8>, AllocError>
-    ensures { IfOk result (λ v. v.items ≡ fresh n) }
-{
-    vec![in heap; FILLER; n]
+// Why the cipher refuses, as a line.
+#[derive(Clone, Copy)]
+struct Refused(SealFault);
+
+impl fmt::Display for Refused {
+    ghost output = { λ r. Some (refused_text (fault_number r.0) (fault_layer r.0)) };
+
+    fn fmt<W: fmt::Write>(&self, f: &mut fmt::Formatter<W>) -> fmt::Result {
+        let number = self.0.number();
+        let layer = self.0.layer();
+        writeln!(f, "refused {number} layer {layer} record 0 place 0")
+    }
 }
 
-// What seal answered, and its buffers.
+// The first line of an answer: what was done, or the refusal.
+#[derive(Clone, Copy)]
+struct FirstLine {
+    done: &'static str,
+    answer: Result<(), SealFault>,
+}
+
+impl fmt::Display for FirstLine {
+    ghost output = { λ l. Some (first_line l.done.now l.answer) };
+
+    fn fmt<W: fmt::Write>(&self, f: &mut fmt::Formatter<W>) -> fmt::Result {
+        match self.answer {
+            Ok(()) => writeln!(f, "{}", self.done),
+            Err(fault) => write!(f, "{}", Refused(fault)),
+        }
+    }
+}
+
+// What seal answered, and its buffers. It is printed in one line.
 #[derive(Drop)]
 struct SealRun {
     answer: Result<(), SealFault>,
     out: Vec<u8>,
     tag: Vec<u8>,
+}
+
+impl fmt::Display for SealRun {
+    ghost output = { λ s. Some (seal_text (seal_in s)) };
+
+    fn fmt<W: fmt::Write>(&self, f: &mut fmt::Formatter<W>) -> fmt::Result {
+        let ciphertext = Hex(self.out.as_slice());
+        let tag = Hex(self.tag.as_slice());
+        match self.answer {
+            Ok(()) => writeln!(f, "sealed {ciphertext} {tag}"),
+            Err(fault) => write!(f, "{}", Refused(fault)),
+        }
+    }
+}
+
+// The same with both buffers whole.
+#[derive(Clone, Copy)]
+struct SealedInto<'a>(&'a SealRun);
+
+impl fmt::Display for SealedInto<'_> {
+    ghost output = { λ s. Some (seal_into_text (seal_in s.0.now)) };
+
+    fn fmt<W: fmt::Write>(&self, f: &mut fmt::Formatter<W>) -> fmt::Result {
+        let first = FirstLine {
+            done: "sealed",
+            answer: self.0.answer,
+        };
+        let out = Hex(self.0.out.as_slice());
+        let tag = Hex(self.0.tag.as_slice());
+        writeln!(f, "{first}output {out}\ntag {tag}")
+    }
+}
+
+// What open answered, and its buffer. It is printed in one line.
+#[derive(Drop)]
+struct OpenRun {
+    answer: Result<(), SealFault>,
+    out: Vec<u8>,
+}
+
+impl fmt::Display for OpenRun {
+    ghost output = { λ s. Some (open_text (open_in s)) };
+
+    fn fmt<W: fmt::Write>(&self, f: &mut fmt::Formatter<W>) -> fmt::Result {
+        let message = Hex(self.out.as_slice());
+        match self.answer {
+            Ok(()) => writeln!(f, "opened {message}"),
+            Err(fault) => write!(f, "{}", Refused(fault)),
+        }
+    }
+}
+
+// The same with the buffer whole.
+#[derive(Clone, Copy)]
+struct OpenedInto<'a>(&'a OpenRun);
+
+impl fmt::Display for OpenedInto<'_> {
+    ghost output = { λ s. Some (open_into_text (open_in s.0.now)) };
+
+    fn fmt<W: fmt::Write>(&self, f: &mut fmt::Formatter<W>) -> fmt::Result {
+        let first = FirstLine {
+            done: "opened",
+            answer: self.0.answer,
+        };
+        let out = Hex(self.0.out.as_slice());
+        writeln!(f, "{first}output {out}")
+    }
 }
 
 // Seals into buffers of these lengths.
@@ -60,8 +154,8 @@ fn run_seal<const B: usize, S: Suite<B>>(
 ) -> Result<SealRun, AllocError>
     ensures { IfOk result (λ s. seal_in s ≡ seal_with S.Bijection.meaning S.SuiteModel.plan (inputs_in given.now) room width) }
 {
-    let mut out = new_buffer(heap, room)?;
-    let mut tag = new_buffer(heap, width)?;
+    let mut out = vec![in heap; FILLER; room]?;
+    let mut tag = vec![in heap; FILLER; width]?;
     let answer = seal::<B, S>(
         given.key.as_slice(),
         given.nonce.as_slice(),
@@ -73,13 +167,6 @@ fn run_seal<const B: usize, S: Suite<B>>(
     Ok(SealRun { answer, out, tag })
 }
 
-// What open answered, and its buffer.
-#[derive(Drop)]
-struct OpenRun {
-    answer: Result<(), SealFault>,
-    out: Vec<u8>,
-}
-
 // Opens into a buffer of this length.
 fn run_open<const B: usize, S: Suite<B>>(
     heap: Global,
@@ -89,7 +176,7 @@ fn run_open<const B: usize, S: Suite<B>>(
 ) -> Result<OpenRun, AllocError>
     ensures { IfOk result (λ s. open_in s ≡ open_with S.Bijection.meaning S.SuiteModel.plan (inputs_in given.now) tag.now room) }
 {
-    let mut out = new_buffer(heap, room)?;
+    let mut out = vec![in heap; FILLER; room]?;
     let answer = open::<B, S>(
         given.key.as_slice(),
         given.nonce.as_slice(),
@@ -101,124 +188,76 @@ fn run_open<const B: usize, S: Suite<B>>(
     Ok(OpenRun { answer, out })
 }
 
-// The line that says why the cipher refuses.
-fn refused_line(heap: Global, number: u8, layer: u8) -> Result<String, AllocError>
-    ensures { IfOk result (λ t. string_bytes t ≡ refused_text number layer) }
-{
-    format!(in heap; "refused {number} layer {layer} record 0 place 0\n")
-}
-
-// The first line: what was done, or the refusal.
-fn first_line(heap: Global, done: &str, answer: Result<(), SealFault>) -> Result<String, AllocError>
-    ensures { IfOk result (λ t. string_bytes t ≡ first_line done.now answer) }
-{
-    match answer {
-        Ok(()) => format!(in heap; "{done}\n"),
-        Err(fault) => refused_line(heap, fault.number(), fault.layer()),
-    }
-}
-
-// The answer of seal in one line.
-fn show_sealed(heap: Global, run: &SealRun) -> Result<String, AllocError>
-    ensures { IfOk result (λ t. string_bytes t ≡ seal_text (seal_in run.now)) }
-{
-    let ciphertext = Hex(run.out.as_slice());
-    let tag = Hex(run.tag.as_slice());
-    let done = format!(in heap; "sealed {ciphertext} {tag}")?;
-    first_line(heap, done.as_str(), run.answer)
-}
-
-// The answer of open in one line.
-fn show_opened(heap: Global, run: &OpenRun) -> Result<String, AllocError>
-    ensures { IfOk result (λ t. string_bytes t ≡ open_text (open_in run.now)) }
-{
-    let message = Hex(run.out.as_slice());
-    let done = format!(in heap; "opened {message}")?;
-    first_line(heap, done.as_str(), run.answer)
-}
-
-// The answer of seal, and its buffers whole.
-fn show_sealed_into(heap: Global, run: &SealRun) -> Result<String, AllocError>
-    ensures { IfOk result (λ t. string_bytes t ≡ seal_into_text (seal_in run.now)) }
-{
-    let first = first_line(heap, "sealed", run.answer)?;
-    let out = Hex(run.out.as_slice());
-    let tag = Hex(run.tag.as_slice());
-    format!(in heap; "{first}output {out}\ntag {tag}\n")
-}
-
-// The answer of open, and its buffer whole.
-fn show_opened_into(heap: Global, run: &OpenRun) -> Result<String, AllocError>
-    ensures { IfOk result (λ t. string_bytes t ≡ open_into_text (open_in run.now)) }
-{
-    let first = first_line(heap, "opened", run.answer)?;
-    let out = Hex(run.out.as_slice());
-    format!(in heap; "{first}output {out}\n")
-}
-
-// KEY NONCE DATA MESSAGE
-fn call_seal<const B: usize, S: Suite<B>>(heap: Global, mut words: Words) -> Result<String, Unread>
-    ensures { Holds string_bytes result (cipher_asked S.Bijection.meaning S.SuiteModel.plan Seal (left words.entry)) }
-{
-    let given = read_given(heap, &mut words)?;
-    words.finish()?;
-    let run = run_seal::<B, S>(heap, &given, given.text.len(), S::RATE)?;
-    Ok(show_sealed(heap, &run)?)
-}
-
-// KEY NONCE DATA CIPHERTEXT TAG
-fn call_open<const B: usize, S: Suite<B>>(heap: Global, mut words: Words) -> Result<String, Unread>
-    ensures { Holds string_bytes result (cipher_asked S.Bijection.meaning S.SuiteModel.plan Open (left words.entry)) }
-{
-    let given = read_given(heap, &mut words)?;
-    let tag = read_bytes(heap, words.next_word()?)?;
-    words.finish()?;
-    let run = run_open::<B, S>(heap, &given, tag.as_slice(), given.text.len())?;
-    Ok(show_opened(heap, &run)?)
-}
-
-// KEY NONCE DATA MESSAGE ROOM WIDTH
-fn call_seal_into<const B: usize, S: Suite<B>>(
+// The words after the message: none.
+fn call_seal<const B: usize, S: Suite<B>>(
     heap: Global,
+    given: &Given,
+    words: Words,
+) -> Result<String, Unread>
+    ensures { Holds string_bytes result (given_asked S.Bijection.meaning S.SuiteModel.plan Seal (inputs_in given.now) (left words.entry)) }
+{
+    words.finish()?;
+    let sealed = run_seal::<B, S>(heap, given, given.text.len(), S::RATE)?;
+    Ok(sealed.to_string(heap)?)
+}
+
+// TAG
+fn call_open<const B: usize, S: Suite<B>>(
+    heap: Global,
+    given: &Given,
     mut words: Words,
 ) -> Result<String, Unread>
-    ensures { Holds string_bytes result (cipher_asked S.Bijection.meaning S.SuiteModel.plan SealInto (left words.entry)) }
+    ensures { Holds string_bytes result (given_asked S.Bijection.meaning S.SuiteModel.plan Open (inputs_in given.now) (left words.entry)) }
 {
-    let given = read_given(heap, &mut words)?;
+    let tag = read_bytes(heap, words.next_word()?)?;
+    words.finish()?;
+    let opened = run_open::<B, S>(heap, given, tag.as_slice(), given.text.len())?;
+    Ok(opened.to_string(heap)?)
+}
+
+// ROOM WIDTH
+fn call_seal_into<const B: usize, S: Suite<B>>(
+    heap: Global,
+    given: &Given,
+    mut words: Words,
+) -> Result<String, Unread>
+    ensures { Holds string_bytes result (given_asked S.Bijection.meaning S.SuiteModel.plan SealInto (inputs_in given.now) (left words.entry)) }
+{
     let room = read_number(words.next_word()?)?;
     let width = read_number(words.next_word()?)?;
     words.finish()?;
-    let run = run_seal::<B, S>(heap, &given, room as usize, width as usize)?;
-    Ok(show_sealed_into(heap, &run)?)
+    let sealed = run_seal::<B, S>(heap, given, room as usize, width as usize)?;
+    Ok(SealedInto(&sealed).to_string(heap)?)
 }
 
-// KEY NONCE DATA CIPHERTEXT TAG ROOM
+// TAG ROOM
 fn call_open_into<const B: usize, S: Suite<B>>(
     heap: Global,
+    given: &Given,
     mut words: Words,
 ) -> Result<String, Unread>
-    ensures { Holds string_bytes result (cipher_asked S.Bijection.meaning S.SuiteModel.plan OpenInto (left words.entry)) }
+    ensures { Holds string_bytes result (given_asked S.Bijection.meaning S.SuiteModel.plan OpenInto (inputs_in given.now) (left words.entry)) }
 {
-    let given = read_given(heap, &mut words)?;
     let tag = read_bytes(heap, words.next_word()?)?;
     let room = read_number(words.next_word()?)?;
     words.finish()?;
-    let run = run_open::<B, S>(heap, &given, tag.as_slice(), room as usize)?;
-    Ok(show_opened_into(heap, &run)?)
+    let opened = run_open::<B, S>(heap, given, tag.as_slice(), room as usize)?;
+    Ok(OpenedInto(&opened).to_string(heap)?)
 }
 
-// Makes a call of the cipher over a suite, from the words after the version.
+// Makes a call of the cipher over a suite, from the words after the version: KEY NONCE DATA TEXT, and then each call's own.
 pub(crate) fn call_cipher<const B: usize, S: Suite<B>>(
     heap: Global,
     call: CipherCall,
-    words: Words,
+    mut words: Words,
 ) -> Result<String, Unread>
     ensures { Holds string_bytes result (cipher_asked S.Bijection.meaning S.SuiteModel.plan call (left words.entry)) }
 {
+    let given = read_given(heap, &mut words)?;
     match call {
-        CipherCall::Seal => call_seal::<B, S>(heap, words),
-        CipherCall::Open => call_open::<B, S>(heap, words),
-        CipherCall::SealInto => call_seal_into::<B, S>(heap, words),
-        CipherCall::OpenInto => call_open_into::<B, S>(heap, words),
+        CipherCall::Seal => call_seal::<B, S>(heap, &given, words),
+        CipherCall::Open => call_open::<B, S>(heap, &given, words),
+        CipherCall::SealInto => call_seal_into::<B, S>(heap, &given, words),
+        CipherCall::OpenInto => call_open_into::<B, S>(heap, &given, words),
     }
 }

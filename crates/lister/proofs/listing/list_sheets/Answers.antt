@@ -1,11 +1,10 @@
 use Rattle.std.proofs.Common.{ℕ, ◌<◌, ◌≤◌, List, [], ◌++◌, length, take, Ok, string_bytes, sym, refl, ap, ◌∙◌, arith}
 use Rattle.std.proofs.lemmas.List.{append_assoc, append-nil, take_all}
-use Rattle.std.proofs.lemmas.Slice.{pushed}
 use Rattle.spoc.specs.Sealing.{Sealing, spoc}
 use Rattle.cards.specs.Faults.{of_card}
 use Rattle.cards.specs.Format.{Sheet, a_sheet}
 use Rattle.reader.specs.Cards.{shown}
-use Rattle.lister.specs.Printed.{sheet_lines}
+use Rattle.lister.specs.Printed.{sheet_line, sheet_lines}
 use Rattle.lister.proofs.Lines.{lines_none, lines_more}
 use Rattle.lister.proofs.Passing.{never_refused, line_is}
 use Rattle.lister.proofs.listing.list_sheets.Given as given
@@ -35,9 +34,11 @@ loop-i-preserved g c = (
       let i = c.loop-i.i in
       let t = string_bytes c.args.text in
       let lt : i < length xs = omega (arith, h.counts, c.count-i-end.ensures) in
-      let line = line_is (cipher g) (shown c.args.card.now) xs h i (length c.loop-i.buffer) lt c.loop-i.invariant.0 nothing c.in_ok-head.head c.in_ok-head.ensures.answer in
-      pushed c.as_str.result.now (c.loop-i.invariant.1 xs h) c.in_ok-push_str.was c.push_str.ensures.bytes
-      ∙ ap (λ (l : List ℕ). (t ++ sheet_lines 0 (take i xs)) ++ l) (c.as_str.ensures.value ∙ c.in_ok-sheet_line.ensures ∙ line)
+      let head = c.in_ok-head.head in
+      let line = line_is (cipher g) (shown c.args.card.now) xs h i (length c.loop-i.buffer) lt c.loop-i.invariant.0 nothing head c.in_ok-head.ensures.answer in
+      c.in_ok-write.ensures.bytes
+      ∙ ap (λ (l : List ℕ). l ++ sheet_line i head.cell head.edition head.«length») (c.loop-i.invariant.1 xs h)
+      ∙ ap (λ (l : List ℕ). (t ++ sheet_lines 0 (take i xs)) ++ l) line
       ∙ append_assoc t (sheet_lines 0 (take i xs)) _
       ∙ ap (λ (l : List ℕ). t ++ l) (sym (lines_more xs i nothing lt)),
 )

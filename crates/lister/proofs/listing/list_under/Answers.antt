@@ -31,7 +31,7 @@ returns g c =
     let is = c.in_ok-check.ensures.fills ∙ x.card in
     let held = subst (λ (d : Card). Holds S d x.sheets) (sym is) x.holds in
     let text =
-    c.in_ok-text.ensures
-    ∙ ap (λ v. card_line c.args.number v c.count.result) c.version_number.ensures
+    c.in_ok-to_string.ensures.ok
+    ∙ ap (λ v. card_line c.args.number v c.count.result) (c.VERSION.ensures ∙ g.met.S.Suite.version_is)
     ∙ ap (card_line c.args.number S.version) (c.count.ensures ∙ ap (λ (d : Card). d.count) is) in
     subst (λ (a : Result (List ℕ) Fault). Says c.list_sheets.result a) (ap (λ (l : List ℕ). Ok (l ++ sheet_lines 0 x.sheets)) text ∙ sym x.text) (c.list_sheets.ensures x.sheets held)

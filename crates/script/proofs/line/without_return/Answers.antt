@@ -1,15 +1,10 @@
-use Rattle.std.proofs.Common.{[], ◌∷◌, Some, None, sym, ap, ◌∙◌}
-use Rattle.std.proofs.lemmas.Slice.Eq.{strip_suffix_is}
-use Rattle.script.specs.Lines.{trimmed}
-use Rattle.script.proofs.Trimming.{trimmed_return, trimmed_same}
-use Rattle.script.proofs.line.without_return.Goals as goal
+use Rattle.std.proofs.Common.{[], ◌∷◌, ap, ◌∙◌}
 use Rattle.std.proofs.lemmas.Bool.Decides.{Decides-eqb}
+use Rattle.std.proofs.lemmas.Slice.Eq.{strip_suffix_is}
+use Rattle.script.proofs.Trimming.{trimmed_rest}
+use Rattle.script.proofs.line.without_return.Goals as goal
 
-pub returns-in-Some : goal.returns-in-Some
-returns-in-Some c =
-    let is = strip_suffix_is Decides-eqb c.args.line.now (13 ∷ []) (Some c.in-Some.rest) c.in-Some.ensures.cases in
-    sym (ap trimmed is ∙ trimmed_return c.in-Some.rest.now)
-
-pub returns-in-None : goal.returns-in-None
-returns-in-None c =
-    sym (trimmed_same c.args.line.now (strip_suffix_is Decides-eqb c.args.line.now (13 ∷ []) None c.in-None.ensures.cases))
+pub returns : goal.returns
+returns c =
+    let cases = strip_suffix_is Decides-eqb c.args.line.now (13 ∷ []) c.strip_suffix.result c.strip_suffix.ensures.cases in
+    ap (λ b. b.now) c.unwrap_or.ensures ∙ trimmed_rest c.args.line c.strip_suffix.result cases

@@ -1,22 +1,9 @@
-use Rattle.std.proofs.Common.{◌≡◌, ℕ, ◌+◌, ◌-◌, take, drop, Some, sym, ap, ◌∙◌, add-one, arith}
-use Rattle.std.proofs.lemmas.List.{take_rest}
-use Rattle.script.proofs.Splitting.{first_at, after_at, first_all, after_all}
+use Rattle.std.proofs.Common.{sym, ◌∙◌}
+use Rattle.script.proofs.Splitting.{split_there, split_nowhere}
 use Rattle.script.proofs.words.split_word.Goals as goal
 
-pub returns-then-line-i-eq32 : goal.returns-then-line-i-eq32
-returns-then-line-i-eq32 c =
-    let line = c.args.line.now in
-    let i = c.loop-i.i in
-    let e : i - 0 ≡ i = omega arith in
-    record {
-      word = ap (λ (n : ℕ). take n line) e ∙ sym (first_at line i c.loop-i.invariant c.if-line-i-eq32.true);
-      rest = ap Some (take_rest line (i + 1) ∙ ap (λ (n : ℕ). drop n line) (add-one i)) ∙ sym (after_at line i c.loop-i.invariant c.if-line-i-eq32.true);
-    }
+pub returns-in-Some : goal.returns-in-Some
+returns-in-Some c = split_there c.args.line.now c.in-Some.i (sym c.first_space.ensures ∙ c.in-Some.is)
 
-pub returns : goal.returns
-returns c =
-    let line = c.args.line.now in
-    record {
-      word = sym (first_all line (λ k h. c.loop-i.invariant k (omega arith)));
-      rest = sym (after_all line (λ k h. c.loop-i.invariant k (omega arith)));
-    }
+pub returns-in-None : goal.returns-in-None
+returns-in-None c = split_nowhere c.args.line.now (sym c.first_space.ensures ∙ c.in-None.is)

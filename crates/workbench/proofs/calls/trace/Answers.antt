@@ -1,6 +1,5 @@
-use Rattle.std.proofs.Common.{ℕ, ◌<◌, List, ◌++◌, sym, ap, ◌∙◌, arith}
-use Rattle.std.proofs.lemmas.Slice.{pushed}
-use Rattle.workbench.specs.Printed.{trace_text}
+use Rattle.std.proofs.Common.{ℕ, ◌+◌, ◌<◌, List, ◌++◌, sym, ap, ◌∙◌, arith}
+use Rattle.workbench.specs.Printed.{step_text}
 use Rattle.workbench.proofs.Tracing.{stepped_none, trace_none, stepped_more, trace_more}
 use Rattle.workbench.proofs.calls.trace.Goals as goal
 
@@ -8,7 +7,7 @@ pub loop-i-init : goal.loop-i-init
 loop-i-init g c =
     let w = g.P.Steps.walk in
     let s = c.args.state in
-    (sym (stepped_none w s), c.in_ok-text.ensures ∙ sym (trace_none w s))
+    (sym (stepped_none w s), c.in_ok-text.ensures.ok ∙ sym (trace_none w s))
 
 pub loop-i-preserved : goal.loop-i-preserved
 loop-i-preserved g c =
@@ -18,7 +17,7 @@ loop-i-preserved g c =
     let inv = c.loop-i.invariant in
     let within : i < w.count = omega arith in (
       stepped_more w s c.loop-i.state c.step.new.state i within inv.0 c.step.ensures.state,
-      pushed c.as_str.result.now inv.1 c.in_ok-push_str.was c.push_str.ensures.bytes
-          ∙ ap (λ (l : List ℕ). trace_text w i s ++ l) (c.as_str.ensures.value ∙ c.in_ok-step_line.ensures)
+      c.in_ok-write.ensures.bytes
+          ∙ ap (λ (l : List ℕ). l ++ step_text (i + 1) c.step.new.state) inv.1
           ∙ trace_more w s c.loop-i.state c.step.new.state i within inv.0 c.step.ensures.state,
     )
