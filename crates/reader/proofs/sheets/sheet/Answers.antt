@@ -21,15 +21,15 @@ pub open_sheet-requires : goal.open_sheet-requires
 open_sheet-requires g c =
     let at : From c.args.card.now c.args.i c.rest_at.result = record { number = c.rest_at.ensures.number; place_is = c.rest_at.ensures.place; bytes = c.rest_at.ensures.bytes } in
     let f = fits c.args.card.now c.args.i c.rest_at.result at (omega arith) in
-    omega (arith, f, c.rate_bytes.ensures)
+    omega (arith, f, (c.RATE.ensures ∙ g.met.S.Suite.rate_is))
 
 -- a refusal of open_sheet, to the card
 refused_is : (g : given.Over) (c : After-from_residual g) → told c.from_residual.result ≡ headed (sheet_answer (cipher g) (shown c.args.card.now) c.args.i (length c.args.buffer.now))
 refused_is g c =
     let card = c.args.card.now in
     let S = cipher g in
-    let hv : card.version ≡ S.version = omega (arith, c.version_number.ensures) in
-    let hr : card.rate ≡ S.rate = omega (arith, c.rate_bytes.ensures) in
+    let hv : card.version ≡ S.version = omega (arith, (c.VERSION.ensures ∙ g.met.S.Suite.version_is)) in
+    let hr : card.rate ≡ S.rate = omega (arith, (c.RATE.ensures ∙ g.met.S.Suite.rate_is)) in
     let o = length c.args.buffer.now in
     let x = c.rest_at.result in
     let h = take 13 card.bytes.now in

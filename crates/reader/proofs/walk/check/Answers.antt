@@ -74,9 +74,9 @@ invariant_of-card g c =
     let room : 4096 ≤ length s = search rules in
     let x = filled_at (cipher g) k bs (length s) key_is.long room c.in_ok-count.count (counted g k c.in-Ok.key bs _ key_is.same c.in_ok-count.ensures) in
     record {
-      runs = λ _. ap (λ r. place_of r bs (suc c.in_ok-count.count)) c.rate_bytes.ensures ∙ x.runs;
+      runs = λ _. ap (λ r. place_of r bs (suc c.in_ok-count.count)) (c.RATE.ensures ∙ g.met.S.Suite.rate_is) ∙ x.runs;
       none = λ none. absurd (omega (arith, x.long));
-      small = omega (arith, c.rate_bytes.ensures, g.met.S.SuiteModel.sound.rate_high);
+      small = omega (arith, (c.RATE.ensures ∙ g.met.S.Suite.rate_is), g.met.S.SuiteModel.sound.rate_high);
     }
 
 pub returns : goal.returns
@@ -89,7 +89,7 @@ returns g c =
     let x = filled_at (cipher g) k bs (length s) key_is.long room c.in_ok-count.count (counted g k c.in-Ok.key bs _ key_is.same c.in_ok-count.ensures) in
     record {
       answer = ap passes (sym x.is);
-      fills = same_card bs key_is.same c.version_number.ensures c.rate_bytes.ensures (sym x.many) ∙ ap filled (sym x.is);
+      fills = same_card bs key_is.same (c.VERSION.ensures ∙ g.met.S.Suite.version_is) (c.RATE.ensures ∙ g.met.S.Suite.rate_is) (sym x.many) ∙ ap filled (sym x.is);
       scratch = wiped_over k s c.fill.new.self _ key_is.long room (search rules) (c.fill.ensures.after (λ y e. e));
       as_written = reads_as_written (cipher g) (laws g);
       writable = all_writable (cipher g) (laws g);

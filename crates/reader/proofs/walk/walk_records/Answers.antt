@@ -29,8 +29,8 @@ loop-record-preserved g c =
     let rest = c.loop-record.rest in
     let x = c.in_ok-record.record in
     let s = walked_sheet (cipher g) key.key.now key.header.now rest.number rest.place rest.bytes.now x.head x.body.now x.tag.now (sym (ap (λ k. result.Ok (of_kind k x.head x.body.now x.tag.now)) c.in-Sheet.is) ∙ c.in_ok-record.ensures) in
-    let k = 9 + length x.body.now + c.rate_bytes.result in
-    let size : k ≡ 9 + length_of rest.bytes.now + g.S.SuiteModel.plan.rate = omega (arith, s.1.body, c.rate_bytes.ensures) in (
+    let k = 9 + length x.body.now + c.RATE.result in
+    let size : k ≡ 9 + length_of rest.bytes.now + g.S.SuiteModel.plan.rate = omega (arith, s.1.body, (c.RATE.ensures ∙ g.met.S.Suite.rate_is)) in (
       omega (arith, s.0, c.after-rest.ensures.number),
       ap (λ n. total (cipher g) key.key.now key.header.now n c.after-rest.result.place c.after-rest.result.bytes.now) c.after-rest.ensures.number
           ∙ ap (λ p. total (cipher g) key.key.now key.header.now (rest.number + 1) p c.after-rest.result.bytes.now) c.after-rest.ensures.place
@@ -46,7 +46,7 @@ returns-then-rest-size g c =
     let x = c.in_ok-record.record in
     let none = x.end c.in-End.is in
     let e = walked_end (cipher g) key.key.now key.header.now rest.number rest.place rest.bytes.now x.head x.body.now x.tag.now (sym (ap (λ k. result.Ok (of_kind k x.head x.body.now x.tag.now)) c.in-End.is) ∙ c.in_ok-record.ensures) in
-    let size : 9 + length x.body.now + c.rate_bytes.result ≡ 9 + g.S.SuiteModel.plan.rate = omega (arith, none, c.rate_bytes.ensures) in
+    let size : 9 + length x.body.now + c.RATE.result ≡ 9 + g.S.SuiteModel.plan.rate = omega (arith, none, (c.RATE.ensures ∙ g.met.S.Suite.rate_is)) in
     ap (λ f. result.Err (of_card f)) c.at.ensures
     ∙ ap (λ k. result.Err (fault 15 3 rest.number (rest.place + k))) size
     ∙ sym (total_left (cipher g) key.key.now key.header.now rest.number rest.place rest.bytes.now e.1 (omega (arith, size, c.if-rest-size.true)))
@@ -59,5 +59,5 @@ returns-in-End g c =
     let x = c.in_ok-record.record in
     let none = x.end c.in-End.is in
     let e = walked_end (cipher g) key.key.now key.header.now rest.number rest.place rest.bytes.now x.head x.body.now x.tag.now (sym (ap (λ k. result.Ok (of_kind k x.head x.body.now x.tag.now)) c.in-End.is) ∙ c.in_ok-record.ensures) in
-    sym (total_end (cipher g) key.key.now key.header.now rest.number rest.place rest.bytes.now e.1 (omega (arith, e.0.whole, e.0.body, none, c.rate_bytes.ensures, c.if-rest-size.false)))
+    sym (total_end (cipher g) key.key.now key.header.now rest.number rest.place rest.bytes.now e.1 (omega (arith, e.0.whole, e.0.body, none, (c.RATE.ensures ∙ g.met.S.Suite.rate_is), c.if-rest-size.false)))
     ∙ c.loop-record.invariant.1

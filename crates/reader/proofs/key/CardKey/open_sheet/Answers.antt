@@ -22,7 +22,7 @@ answer_is g c =
     let key = c.args.self.now in
     let rest = c.args.rest.now in
     let o = length c.args.buffer.now in
-    let tag_is = c.body_and_tag.ensures.tag ∙ ap (λ r. tag_of r rest.bytes.now) c.rate_bytes.ensures in
+    let tag_is = c.body_and_tag.ensures.tag ∙ ap (λ r. tag_of r rest.bytes.now) (c.RATE.ensures ∙ g.met.S.Suite.rate_is) in
     sheet_told (cipher g) (laws g) key.key.now key.header.now rest.bytes.now rest.number rest.place o (passed c.open.result) c.requires
     (c.open.ensures.answer
     ∙ ap (λ (b : List ℕ). open_answer ((cipher g).opens key.key.now (nonce key.header.now rest.number) (key.header.now ++ head_of rest.bytes.now) b c.body_and_tag.result.1.now) (length b) o rest.number (rest.place + 9)) c.body_and_tag.ensures.body

@@ -17,5 +17,5 @@ returns-in_err-open g c =
     let rest = c.args.rest.now in
     let x = c.in_ok-record.record in
     ap said (res.1 ∙ ap Err res.2)
-    ∙ refused_is S key.key.now key.header.now rest.number rest.place rest.bytes.now x.kind x.head x.body.now x.tag.now x.end (c.in_ok-record.ensures ∙ ap (λ r. parse r rest.number rest.place rest.bytes.now) c.rate_bytes.ensures) (of_sealed c.in_err-open.field-0.0)
+    ∙ refused_is S key.key.now key.header.now rest.number rest.place rest.bytes.now x.kind x.head x.body.now x.tag.now x.end (c.in_ok-record.ensures ∙ ap (λ r. parse r rest.number rest.place rest.bytes.now) (c.RATE.ensures ∙ g.met.S.Suite.rate_is)) (of_sealed c.in_err-open.field-0.0)
     (c.in_err-open.ensures.answer ∙ ap (λ o. open_answer (S.opens key.key.now (nonce key.header.now rest.number) (key.header.now ++ head_of rest.bytes.now) x.body.now x.tag.now) (length x.body.now) o rest.number (rest.place + 9 + length x.body.now)) all)

@@ -15,11 +15,11 @@ returns g c =
     let d = c.record_data-data.result in
     let o = c.split_at_mut-body_part.result.0.now in
     let t = c.split_at_mut-tag_part.result.0.now in
-    let tag_long : length t ≡ g.S.SuiteModel.plan.rate = c.split_at_mut-tag_part.ensures.front_len ∙ c.rate_bytes.ensures in
+    let tag_long : length t ≡ g.S.SuiteModel.plan.rate = c.split_at_mut-tag_part.ensures.front_len ∙ (c.RATE.ensures ∙ g.met.S.Suite.rate_is) in
     let w = whole g.S.Bijection.meaning g.S.SuiteModel.plan me.key n d b o t (search rules) (search rules) (search rules) c.requires.short c.split_at_mut-body_part.ensures.front_len tag_long in
     let nine : 9 ≡ length c.copy_from_slice.new.self = search rules in
     let body_size : length b ≡ length c.seal.new.out = search rules in
-    let tag_size : c.rate_bytes.result ≡ length c.seal.new.tag = search rules in
+    let tag_size : c.RATE.result ≡ length c.seal.new.tag = search rules in
     let behind : c.split_at_mut-tag_part.result.1.now ≡ drop (length c.seal.new.tag) (drop (length c.seal.new.out) (drop (length c.copy_from_slice.new.self) (drop me.place m))) =
     c.split_at_mut-tag_part.ensures.back
     ∙ ap (λ i. drop i c.split_at_mut-body_part.result.1.now) tag_size
