@@ -17,7 +17,7 @@ use Rattle.cards.specs.Reader.{unseal}
 use Rattle.reader.specs.Said.{open_answer}
 
 -- an answer of open with the record and the place
-abbrev pub placed : ℕ → ℕ → Result (Unit {0}) SealFault → Result (Unit {0}) Fault
+abbrev placed : ℕ → ℕ → Result (Unit {0}) SealFault → Result (Unit {0}) Fault
 placed n p (Ok x) = Ok x
 placed n p (Err f) = Err (of_sealed (at f n p))
 

@@ -39,10 +39,6 @@ module _ (r n p : ℕ) (rest : List ℕ) where
   lengths kind.Sheet hd b t none e = (sheet_lengths r n p rest hd.cell hd.edition b t (sym e)).0
   lengths kind.End hd b t none e = subst (λ (l : List ℕ). Lengths r rest l t) (sym (no_bytes b (none refl))) (end_lengths r n p rest t (sym e))
 
-then_ok : {X Y : Type 0} (z : Option (List ℕ)) (g : List ℕ → X) (f : Fault) (y : Y) → Ok tt ≡ unseal {X = Unit {0}} z (λ _. tt) f → and_then (unseal z g f) (λ _. Ok y) ≡ Ok y
-then_ok (Some m) g f y e = refl
-then_ok None g f y e = absurd (let q : ◌≡◌ {A = ℕ} 0 1 = cc in omega arith)
-
 then_no : {X Y : Type 0} (z : Option (List ℕ)) (g : List ℕ → X) (f f' : Fault) (y : Y) → Err f' ≡ unseal {X = Unit {0}} z (λ _. tt) f → Err f' ≡ and_then (unseal z g f) (λ _. Ok y)
 then_no (Some m) g f f' y e = absurd (let q : ◌≡◌ {A = ℕ} 0 1 = cc in omega arith)
 then_no None g f f' y e = ap Err (cc)
@@ -57,14 +53,6 @@ module _ (S : Sealing) (key h : List ℕ) (n p : ℕ) (rest : List ℕ) where
 
   no_body : (t : List ℕ) (a : Result (Unit {0}) Fault) → Opened [] t a → a ≡ unseal (S.opens key (nonce h n) (h ++ head_of rest) [] t) (λ _. tt) (fault 6 1 n (p + 9))
   no_body t a o = let z : p + 9 + 0 ≡ p + 9 = omega arith in long_enough [] t a (omega arith) o ∙ ap (λ i. unseal (S.opens key (nonce h n) (h ++ head_of rest) [] t) (λ _. tt) (fault 6 1 n i)) z
-
-  pub opened_is : (k : Kind) (hd : SheetHead) (b t : List ℕ) (none : k ≡ kind.End → length b ≡ 0) (is : Ok (of_kind k hd b t) ≡ parse S.rate n p rest) → Opened b t (Ok tt) → Ok (of_kind k hd b t) ≡ tried S key h n p rest
-  opened_is kind.Sheet hd b t none is o =
-      sym (ap (λ z. and_then z (λ x. and_then (opened S key h n p (head_of rest) x) (λ _. Ok x))) (sym is)
-      ∙ then_ok (S.opens key (nonce h n) (h ++ head_of rest) b t) (λ m. Some (a_sheet hd.cell hd.edition m)) (fault 6 1 n (p + 9 + length b)) (sheet hd.cell hd.edition b t) (long_enough b t (Ok tt) (lengths S.rate n p rest kind.Sheet hd b t none is).short o))
-  opened_is kind.End hd b t none is o =
-      sym (ap (λ z. and_then z (λ x. and_then (opened S key h n p (head_of rest) x) (λ _. Ok x))) (sym is)
-      ∙ then_ok {X = Option Sheet} (S.opens key (nonce h n) (h ++ head_of rest) [] t) (λ m. None) (fault 6 1 n (p + 9)) (last t) (no_body t (Ok tt) (subst (λ (l : List ℕ). Opened l t (Ok tt)) (no_bytes b (none refl)) o)))
 
   pub refused_is : (k : Kind) (hd : SheetHead) (b t : List ℕ) (none : k ≡ kind.End → length b ≡ 0) (is : Ok (of_kind k hd b t) ≡ parse S.rate n p rest) (f : Fault) → Opened b t (Err f) → Err f ≡ tried S key h n p rest
   refused_is kind.Sheet hd b t none is f o =

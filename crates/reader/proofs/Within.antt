@@ -35,8 +35,5 @@ module _ (c : Card) (i : ℕ) (x : Rest) (at : From c i x) where
         bytes = eb ∙ ap (drop k) at.bytes ∙ drop-drop k (place c i) c.bytes.now ∙ ap (λ q. drop q c.bytes.now) (ap (λ q. q + k) (sym at.place_is) ∙ size);
       }
 
-pub from_first : (c : Card) (x : Rest) → x.bytes.now ≡ drop 13 c.bytes.now → x.number ≡ 0 → x.place ≡ 13 → From c 0 x
-from_first c x b n p = record { number = n; place_is = p; bytes = b }
-
 pub header_long : (c : Card) (i : ℕ) → i < c.count → 13 ≤ length c.bytes.now
 header_long c i h = omega (arith, within c i h, place_low c.rate c.bytes.now (suc i))
