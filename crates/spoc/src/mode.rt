@@ -64,7 +64,8 @@ fn flag_of(last: bool) -> u8
     if last { LAST } else { 0 }
 }
 
-// The state of a suite's cipher, which blocks go into.
+// The state of a suite's cipher, which blocks go into. A block is a slice of at most RATE bytes, as six contracts ask: a type for it
+// would be made at two calls and taken apart in all six.
 #[derive(Drop)]
 pub(crate) struct Duplex<const B: usize, S> {
     pub(crate) state: [u8; B],
