@@ -17,8 +17,3 @@ loop-i-preserved c =
     take_more_set c.loop-i.out i (bit_xor (get_or a i 0) (get_or b i 0)) (omega arith)
     ∙ ap (λ z. z ++ (bit_xor (get_or a i 0) (get_or b i 0) ∷ [])) c.loop-i.invariant
     ∙ sym (ap (λ n. xors (take n a) (take n b)) (add-one i) ∙ xors_push a b i (omega arith) (omega arith))
-
-pub returns : goal.returns
-returns c =
-    let i = c.loop-i.i in
-    sym (take_all i c.loop-i.out (omega arith)) ∙ c.loop-i.invariant ∙ ap₂ xors (take_all i c.args.a.now (omega arith)) (take_all i c.args.b.now (omega arith))

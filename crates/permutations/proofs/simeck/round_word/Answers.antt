@@ -5,6 +5,3 @@ use Rattle.permutations.proofs.simeck.round_word.Goals as goal
 
 pub overflow_sub-result : goal.overflow_sub-result
 overflow_sub-result g c = omega (arith, g.met.W.Width.ones, byte_fits g.W.Width.BYTES g.W.Width.some)
-
-pub returns : goal.returns
-returns g c = omega (arith, g.met.W.Width.ones, byte_fits g.W.Width.BYTES g.W.Width.some, and_mask (c.args.rc / 2 ^ c.args.k) 1)

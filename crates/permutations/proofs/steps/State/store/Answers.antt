@@ -17,13 +17,3 @@ loop-i-preserved g c =
     stores_more w c.BYTES.result i _ c.words.result all c.store_word.new.part c.BYTES.ensures (omega (arith, ap length c.words.ensures))
     (part_end i w 8 (length all) c.loop-i-test.true size)
     c.loop-i.invariant c.store_word.ensures
-
-pub returns : goal.returns
-returns g c =
-    let w = g.W.Width.BYTES in
-    let all = c.loop-i.bytes in
-    let i_is : c.loop-i.i ≡ 8 = omega arith in
-    let size : length all ≡ w * 8 = c.loop-i.auto.bytes ∙ c.told-state ∙ c.sized.ensures in
-    let whole : take (8 * w) all ≡ all = take_all (8 * w) all (omega (arith, size, mul_comm 8 w)) in
-    let eight : take 8 c.words.result ≡ words c.args.self = ap (take 8) c.words.ensures in
-    sym whole ∙ subst (λ (n : ℕ). take (n * w) all ≡ stores w (take n c.words.result)) i_is c.loop-i.invariant ∙ ap (stores w) eight
