@@ -1,5 +1,4 @@
 pub mod Opening
-pub mod Parsed
 pub mod Trying
 pub mod Within
 pub mod Bodies

@@ -1,15 +1,12 @@
 -- A record's tag tried.
-use Rattle.std.proofs.Common.{◌≡◌, ℕ, ◌+◌, ◌<◌, ◌≤◌, List, [], ◌∷◌, ◌++◌, length, Some, None, Ok, Err, Option, Result, sym, refl, ap, ◌∙◌, subst, arith}
+use Rattle.std.proofs.Common.{◌≡◌, ℕ, ◌+◌, ◌<◌, ◌≤◌, List, [], ◌++◌, length, Some, None, Ok, Err, Option, Result, sym, refl, ap, ◌∙◌, arith}
 use Rattle.std.proofs.lemmas.List.Edits.{length-between}
 use Rattle.spoc.specs.Sealing.{Sealing}
 use Rattle.cards.specs.Faults.{Fault, fault, and_then}
 use Rattle.cards.specs.Format.{Sheet, nonce, a_sheet}
 use Rattle.cards.specs.Reader.{Record, sheet, last, parse, opened, unseal, read_record, length_of, head_of}
 use Rattle.cards.proofs.Parsing.{sheet_parsed, end_parsed, body_length}
-use Rattle.cards.specs.declared.Kind.{Kind}
-use Rattle.cards.specs.declared.Kind.TheVariants as kind
-use Rattle.reader.specs.declared.rest.SheetHead.{SheetHead}
-use Rattle.reader.specs.Said.{tried, of_kind, open_answer}
+use Rattle.reader.specs.Said.{tried, sealed_body, sealed_tag, open_answer}
 use Rattle.reader.proofs.Opening.{answer_long}
 
 pub record Lengths (r : ℕ) (rest b t : List ℕ) : Type 0 where
@@ -29,24 +26,27 @@ end_lengths r n p rest t h =
     let x = end_parsed r n p rest t h in
     record { whole = x.0.within; body = sym x.1; short = omega arith; tag = ap length (sym x.0.tag) ∙ length-between rest (9 + length_of rest) (9 + length_of rest + r) x.0.within ∙ omega arith }
 
-no_bytes : (b : List ℕ) → length b ≡ 0 → b ≡ []
-no_bytes [] e = refl
-no_bytes (x ∷ xs) e = absurd (omega arith)
+-- a record that was parsed
+lengths : (r n p : ℕ) (rest : List ℕ) (x : Record) → parse r n p rest ≡ Ok x → Lengths r rest (sealed_body x) (sealed_tag x)
+lengths r n p rest (sheet c e b t) is = (sheet_lengths r n p rest c e b t is).0
+lengths r n p rest (last t) is = end_lengths r n p rest t is
 
--- a record of the program that was parsed; an end record has no body
-module _ (r n p : ℕ) (rest : List ℕ) where
-  lengths : (k : Kind) (hd : SheetHead) (b t : List ℕ) → (k ≡ kind.End → length b ≡ 0) → Ok (of_kind k hd b t) ≡ parse r n p rest → Lengths r rest b t
-  lengths kind.Sheet hd b t none e = (sheet_lengths r n p rest hd.cell hd.edition b t (sym e)).0
-  lengths kind.End hd b t none e = subst (λ (l : List ℕ). Lengths r rest l t) (sym (no_bytes b (none refl))) (end_lengths r n p rest t (sym e))
+pub sealed_lengths : (r n p : ℕ) (rest : List ℕ) (x : Record) (b t : List ℕ) → Ok x ≡ parse r n p rest → b ≡ sealed_body x → t ≡ sealed_tag x → (length b ≤ 65535) × (length t ≡ r)
+sealed_lengths r n p rest x b t is eb et =
+    let l = lengths r n p rest x (sym is) in
+    (omega (arith, ap length eb, l.short), ap length et ∙ l.tag)
 
 then_no : {X Y : Type 0} (z : Option (List ℕ)) (g : List ℕ → X) (f f' : Fault) (y : Y) → Err f' ≡ unseal {X = Unit {0}} z (λ _. tt) f → Err f' ≡ and_then (unseal z g f) (λ _. Ok y)
 then_no (Some m) g f f' y e = absurd (let q : ◌≡◌ {A = ℕ} 0 1 = cc in omega arith)
 then_no None g f f' y e = ap Err (cc)
 
 module _ (S : Sealing) (key h : List ℕ) (n p : ℕ) (rest : List ℕ) where
-  -- its body is opened into 4,096 bytes
+  -- the answer to opening body and tag into a buffer of o bytes
+  abbrev answer : List ℕ → List ℕ → ℕ → Result (Unit {0}) Fault
+  answer b t o = open_answer (S.opens key (nonce h n) (h ++ head_of rest) b t) (length b) o n (p + 9 + length b)
+
   abbrev Opened : List ℕ → List ℕ → Result (Unit {0}) Fault → Type 0
-  Opened b t a = a ≡ open_answer (S.opens key (nonce h n) (h ++ head_of rest) b t) (length b) 4096 n (p + 9 + length b)
+  Opened b t a = a ≡ answer b t 4096
 
   long_enough : (b t : List ℕ) (a : Result (Unit {0}) Fault) → length b ≤ 4096 → Opened b t a → a ≡ unseal (S.opens key (nonce h n) (h ++ head_of rest) b t) (λ _. tt) (fault 6 1 n (p + 9 + length b))
   long_enough b t a short o = o ∙ answer_long (S.opens key (nonce h n) (h ++ head_of rest) b t) (length b) 4096 n (p + 9 + length b) short
@@ -54,13 +54,18 @@ module _ (S : Sealing) (key h : List ℕ) (n p : ℕ) (rest : List ℕ) where
   no_body : (t : List ℕ) (a : Result (Unit {0}) Fault) → Opened [] t a → a ≡ unseal (S.opens key (nonce h n) (h ++ head_of rest) [] t) (λ _. tt) (fault 6 1 n (p + 9))
   no_body t a o = let z : p + 9 + 0 ≡ p + 9 = omega arith in long_enough [] t a (omega arith) o ∙ ap (λ i. unseal (S.opens key (nonce h n) (h ++ head_of rest) [] t) (λ _. tt) (fault 6 1 n i)) z
 
-  pub refused_is : (k : Kind) (hd : SheetHead) (b t : List ℕ) (none : k ≡ kind.End → length b ≡ 0) (is : Ok (of_kind k hd b t) ≡ parse S.rate n p rest) (f : Fault) → Opened b t (Err f) → Err f ≡ tried S key h n p rest
-  refused_is kind.Sheet hd b t none is f o =
-      then_no (S.opens key (nonce h n) (h ++ head_of rest) b t) (λ m. Some (a_sheet hd.cell hd.edition m)) (fault 6 1 n (p + 9 + length b)) f (sheet hd.cell hd.edition b t) (long_enough b t (Err f) (lengths S.rate n p rest kind.Sheet hd b t none is).short o)
+  refused : (x : Record) (is : Ok x ≡ parse S.rate n p rest) (f : Fault) → Opened (sealed_body x) (sealed_tag x) (Err f) → Err f ≡ tried S key h n p rest
+  refused (sheet c e b t) is f o =
+      then_no (S.opens key (nonce h n) (h ++ head_of rest) b t) (λ m. Some (a_sheet c e m)) (fault 6 1 n (p + 9 + length b)) f (sheet c e b t) (long_enough b t (Err f) (lengths S.rate n p rest (sheet c e b t) (sym is)).short o)
       ∙ ap (λ z. and_then z (λ x. and_then (opened S key h n p (head_of rest) x) (λ _. Ok x))) is
-  refused_is kind.End hd b t none is f o =
-      then_no {X = Option Sheet} (S.opens key (nonce h n) (h ++ head_of rest) [] t) (λ m. None) (fault 6 1 n (p + 9)) f (last t) (no_body t (Err f) (subst (λ (l : List ℕ). Opened l t (Err f)) (no_bytes b (none refl)) o))
+  refused (last t) is f o =
+      then_no {X = Option Sheet} (S.opens key (nonce h n) (h ++ head_of rest) [] t) (λ m. None) (fault 6 1 n (p + 9)) f (last t) (no_body t (Err f) o)
       ∙ ap (λ z. and_then z (λ x. and_then (opened S key h n p (head_of rest) x) (λ _. Ok x))) is
+
+  -- of a record that the program parsed, into a scratch of o bytes
+  pub refused_is : (x : Record) (b t : List ℕ) (r o : ℕ) (f : Fault) → Ok x ≡ parse r n p rest → r ≡ S.rate → o ≡ 4096 → b ≡ sealed_body x → t ≡ sealed_tag x → Err f ≡ answer b t o → Err f ≡ tried S key h n p rest
+  refused_is x b t r o f is er eo eb et a =
+      refused x (is ∙ ap (λ r. parse r n p rest) er) f (a ∙ ap (answer b t) eo ∙ ap (λ b. answer b t 4096) eb ∙ ap (λ t. answer (sealed_body x) t 4096) et)
 
 -- what a tried record is to the walk
 tried_ok : (P : Result Record Fault) (O : Record → Result (Option Sheet) Fault) (x : Record) → and_then P (λ y. and_then (O y) (λ _. Ok y)) ≡ Ok x → (y : Option Sheet) × (P ≡ Ok x) × (O x ≡ Ok y)
@@ -102,13 +107,13 @@ module _ (S : Sealing) (key h : List ℕ) (n p : ℕ) (rest : List ℕ) where
       (ap (λ z. and_then z O) x.1 ∙ x.2 ∙ ap Ok (sym u.1), x.1)
 
   -- the record that was read, to the walk
-  pub walked_sheet : (hd : SheetHead) (b t : List ℕ) → Ok (of_kind kind.Sheet hd b t) ≡ tried S key h n p rest → (n < 512) × Lengths S.rate rest b t × ((s : Sheet) × (read_record S key h n p rest ≡ Ok (Some s)))
-  walked_sheet hd b t i =
-      let x = read_sheet hd.cell hd.edition b t i in
-      let l = sheet_lengths S.rate n p rest hd.cell hd.edition b t x.2 in
+  pub walked_sheet : (c e : ℕ) (b t : List ℕ) → Ok (sheet c e b t) ≡ tried S key h n p rest → (n < 512) × Lengths S.rate rest b t × ((s : Sheet) × (read_record S key h n p rest ≡ Ok (Some s)))
+  walked_sheet c e b t i =
+      let x = read_sheet c e b t i in
+      let l = sheet_lengths S.rate n p rest c e b t x.2 in
       (l.1, l.0, (x.0, x.1))
 
-  pub walked_end : (hd : SheetHead) (b t : List ℕ) → Ok (of_kind kind.End hd b t) ≡ tried S key h n p rest → Lengths S.rate rest [] t × (read_record S key h n p rest ≡ Ok None)
-  walked_end hd b t i =
+  pub walked_end : (t : List ℕ) → Ok (last t) ≡ tried S key h n p rest → Lengths S.rate rest [] t × (read_record S key h n p rest ≡ Ok None)
+  walked_end t i =
       let x = read_end t i in
       (end_lengths S.rate n p rest t x.1, x.0)

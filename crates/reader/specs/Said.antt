@@ -1,5 +1,5 @@
 -- What the program's answers say. Assumes nothing.
-use Rattle.std.specs.Prelude.{ℕ, ◌+◌, cond, ◌&&◌, List, ◌++◌, length, drop, Ok, Err, Option, Result, ◌==◌, nat_le, nat_lt}
+use Rattle.std.specs.Prelude.{ℕ, ◌+◌, cond, ◌&&◌, List, [], ◌++◌, length, drop, Ok, Err, Option, Result, ◌==◌, nat_le, nat_lt}
 use Rattle.spoc.specs.Sealing.{Sealing}
 use Rattle.cards.specs.Faults.{Fault, fault, and_then, of_record}
 use Rattle.cards.specs.Reader.{Record, sheet, last, parse, opened, head_of, cell_of, edition_of, length_of, unseal, body_or_zeros}
@@ -7,15 +7,21 @@ use Rattle.cards.specs.declared.RecordFault.{RecordFault}
 use Rattle.cards.specs.declared.Kind.{Kind}
 use Rattle.cards.specs.declared.Kind.TheVariants.{Sheet, End}
 use Rattle.reader.specs.declared.rest.Record as code
-use Rattle.reader.specs.declared.rest.SheetHead.{SheetHead}
+use Rattle.reader.specs.declared.rest.Record.TheVariants as part
 
 -- a record of the program, as the reader's
-abbrev pub of_kind : Kind → SheetHead → List ℕ → List ℕ → Record
-of_kind Sheet h b t = sheet h.cell h.edition b t
-of_kind End h b t = last t
-
 abbrev pub of_part : code.Record → Record
-of_part r = of_kind r.kind r.head r.body.now r.tag.now
+of_part (part.Sheet c e b t) = sheet c e b.now t.now
+of_part (part.End t) = last t.now
+
+-- what of a record is sealed: its body, which an end has not, and its tag
+abbrev pub sealed_body : Record → List ℕ
+sealed_body (sheet c e b t) = b
+sealed_body (last t) = []
+
+abbrev pub sealed_tag : Record → List ℕ
+sealed_tag (sheet c e b t) = t
+sealed_tag (last t) = t
 
 -- what an answer of the record layer says
 abbrev pub said : Result code.Record RecordFault → Result Record Fault

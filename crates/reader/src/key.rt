@@ -63,8 +63,14 @@ impl CardKey<'_> {
         ensures { said result ≡ tried (spoc_of S.Bijection.meaning S.SuiteModel.plan) self.now.key.now self.now.header.now rest.now.number rest.now.place rest.now.bytes.now }
     {
         let record = rest.parse(S::RATE)?;
-        let place = rest.place + HEAD_BYTES + record.body.len();
-        self.open::<B, S>(rest, record.body, record.tag, place, scratch)?;
+        let (body, tag) = record.sealed();
+        self.open::<B, S>(
+            rest,
+            body,
+            tag,
+            rest.place + HEAD_BYTES + body.len(),
+            scratch,
+        )?;
         Ok(record)
     }
 

@@ -100,11 +100,14 @@ impl<'a> Rest<'a> {
             return Err(RecordNo::Cut.at(self.number, self.place + HEAD_BYTES));
         }
         let (body, tag) = self.body_and_tag(rate);
-        Ok(Record {
-            kind,
-            head,
-            body,
-            tag,
+        Ok(match kind {
+            Kind::Sheet => Record::Sheet {
+                cell: head.cell,
+                edition: head.edition,
+                body,
+                tag,
+            },
+            Kind::End => Record::End { tag },
         })
     }
 }

@@ -1,7 +1,5 @@
 ghost use Rattle.std.specs.Prelude.{◌≡◌, ◌+◌, ◌<◌, ◌≤◌, ◌^◌, length};
-ghost use Rattle.cards.specs.declared.Kind.TheVariants.{End};
-
-use cards::Kind;
+ghost use Rattle.reader.specs.Said.{of_part, sealed_body, sealed_tag};
 
 // What the head of a record says, but for its kind.
 #[derive(Clone, Copy, Debug, PartialEq, Eq)]
@@ -13,12 +11,29 @@ pub struct SheetHead {
 
 // A record, whose body and tag are parts of the card.
 #[derive(Clone, Copy)]
-pub(crate) struct Record<'a> {
-    pub(crate) kind: Kind,
-    pub(crate) head: SheetHead,
-    pub(crate) body: &'a [u8],
-    pub(crate) tag: &'a [u8],
-    ghost end: { kind ≡ End → length body.now ≡ 0 },
+pub(crate) enum Record<'a> {
+    Sheet {
+        cell: u32,
+        edition: u16,
+        body: &'a [u8],
+        tag: &'a [u8],
+    },
+    End {
+        tag: &'a [u8],
+    },
+}
+
+impl<'a> Record<'a> {
+    // What of it is sealed: its body, which an end has not, and its tag.
+    pub(crate) fn sealed(self) -> (&'a [u8], &'a [u8])
+        ensures body { result.0.now ≡ sealed_body (of_part self.entry) }
+        ensures tag { result.1.now ≡ sealed_tag (of_part self.entry) }
+    {
+        match self {
+            Record::Sheet { body, tag, .. } => (body, tag),
+            Record::End { tag } => (&[], tag),
+        }
+    }
 }
 
 // The rest of a card from a record on, with the record's number and place.

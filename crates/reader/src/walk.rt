@@ -7,8 +7,8 @@ ghost use Rattle.reader.specs.Cards.{shown, passes};
 
 use crate::card::Card;
 use crate::key::CardKey;
-use crate::rest::Rest;
-use cards::{At, CardFault, CardNo, HEAD_BYTES, HEADER_BYTES, Kind, MARK, MOST_BODY, RecordFault};
+use crate::rest::{Record, Rest};
+use cards::{At, CardFault, CardNo, HEAD_BYTES, HEADER_BYTES, MARK, MOST_BODY, RecordFault};
 use spoc::{SealFault, Suite};
 
 // Walks the records of a card, and counts the sheets.
@@ -22,11 +22,10 @@ fn walk_records<const B: usize, S: Suite<B>>(
 {
     let mut rest = records;
     loop {
-        let record = key.read::<B, S>(&rest, scratch)?;
-        let size = HEAD_BYTES + record.body.len() + S::RATE;
-        match record.kind {
-            Kind::Sheet => rest = rest.after(size),
-            Kind::End => {
+        match key.read::<B, S>(&rest, scratch)? {
+            Record::Sheet { body, .. } => rest = rest.after(HEAD_BYTES + body.len() + S::RATE),
+            Record::End { .. } => {
+                let size = HEAD_BYTES + S::RATE;
                 if rest.bytes.len() > size {
                     return Err(CardNo::Left.at(rest.number, rest.place + size));
                 }
@@ -36,14 +35,30 @@ fn walk_records<const B: usize, S: Suite<B>>(
     }
 }
 
-// The questions on the header, and then the walk over the records behind it.
+// Guards the part of a scratch that check uses: it is zero when the guard ends.
+struct Wipe<'a> {
+    bytes: &'a mut [u8; MOST_BODY],
+}
+
+impl Drop for Wipe<'_> {
+    fn drop(self)
+        ensures { self.exit.0.now ≡ replicate 4096 0 }
+    {
+        self.bytes.fill(0);
+        let Wipe { bytes: _ } = self;
+    }
+}
+
+// The questions on the header, and then the walk over the records behind it. However it ends, its part of the scratch is zero.
 fn walk_card<const B: usize, S: Suite<B>>(
     key: &[u8; 16],
     bytes: &[u8],
     scratch: &mut [u8; MOST_BODY],
 ) -> Result<usize, CardFault>
-    ensures { told result ≡ how_many 0 (check_bytes (spoc_of S.Bijection.meaning S.SuiteModel.plan) key.now bytes.now) }
+    ensures answer { told result ≡ how_many 0 (check_bytes (spoc_of S.Bijection.meaning S.SuiteModel.plan) key.now bytes.now) }
+    ensures zero { scratch.new ≡ replicate 4096 0 }
 {
+    let guard = Wipe { bytes: scratch };
     let Some(header) = bytes.first_chunk::<HEADER_BYTES>() else {
         return Err(CardNo::Cut.at(0, 0));
     };
@@ -53,7 +68,11 @@ fn walk_card<const B: usize, S: Suite<B>>(
     if u16::from_be_bytes([header[3], header[4]]) != S::VERSION {
         return Err(CardNo::Version.at(0, 3));
     }
-    walk_records::<B, S>(&CardKey { key, header }, Rest::records(bytes), scratch)
+    walk_records::<B, S>(
+        &CardKey { key, header },
+        Rest::records(bytes),
+        &mut *guard.bytes,
+    )
 }
 
 // A fault of the cipher, before any record.
@@ -87,9 +106,7 @@ pub fn check<'a, const B: usize, S: Suite<B>>(
     let Some(part) = scratch.first_chunk_mut::<MOST_BODY>() else {
         return Err(unready(SealFault::OutputShort));
     };
-    let walked = walk_card::<B, S>(&key, bytes, part);
-    part.fill(0);
-    let count = walked?;
+    let count = walk_card::<B, S>(&key, bytes, part)?;
     *card = Card {
         bytes,
         key,

@@ -1,14 +1,14 @@
-use Rattle.std.proofs.Common.{◌≡◌, ℕ, suc, ◌≤◌, List, ◌++◌, length, drop, replicate, Err, Result, sym, ap, ◌∙◌, arith, rules}
+use Rattle.std.proofs.Common.{◌≡◌, ℕ, suc, ◌≤◌, List, length, Err, Result, sym, ap, ◌∙◌, arith, rules}
 use Rattle.std.proofs.lemmas.Result.{err_from_is_err_and}
 use Rattle.spoc.specs.Sealing.{Sealing, Laws, spoc}
 use Rattle.spoc.proofs.Law.{spoc_laws}
 use Rattle.cards.specs.Faults.{Fault, told, of_card}
-use Rattle.cards.specs.Reader.{Card, check_bytes, filled, how_many, place_of, scratch_after}
+use Rattle.cards.specs.Reader.{Card, check_bytes, filled, how_many, place_of}
 use Rattle.cards.proofs.Claims.{reads_as_written, all_writable}
 use Rattle.cards.proofs.Reading.{reads_once}
 use Rattle.reader.specs.Cards.{passes}
 use Rattle.reader.proofs.Checking.{refused_at, filled_at}
-use Rattle.reader.proofs.Wiping.{scratch_wiped}
+use Rattle.reader.proofs.Wiping.{wiped_over}
 use Rattle.reader.proofs.walk.check.Given as given
 use Rattle.reader.proofs.walk.check.Goals as goal
 
@@ -40,9 +40,6 @@ returns-in_default-first_chunk_mut-clause-once g c = reads_once (cipher g)
 counted : (g : given.Over) (k k' bs : List ℕ) (a : Result ℕ Fault) → k' ≡ k → a ≡ how_many 0 (check_bytes (cipher g) k' bs) → a ≡ how_many 0 (check_bytes (cipher g) k bs)
 counted g k k' bs a same is = is ∙ ap (λ z. how_many 0 (check_bytes (cipher g) z bs)) same
 
-wiped_over : (k s z : List ℕ) (n : ℕ) → length k ≡ 16 → 4096 ≤ length s → n ≡ 4096 → z ≡ replicate n 0 → z ++ drop 4096 s ≡ scratch_after k s
-wiped_over k s z n hk hs e is = ap (λ (l : List ℕ). l ++ drop 4096 s) (is ∙ ap (λ i. replicate i 0) e) ∙ scratch_wiped k s hk hs
-
 pub returns-in_err-count : goal.returns-in_err-count
 returns-in_err-count g c =
     let k = c.args.key.now in
@@ -51,12 +48,12 @@ returns-in_err-count g c =
     let key_is = c.in-Ok.ensures.1 in
     let room : 4096 ≤ length s = search rules in
     let f = of_card c.in_err-count.field-0.0 in
-    let e = refused_at (cipher g) k bs (length s) key_is.long room f (counted g k c.in-Ok.key bs (Err f) key_is.same c.in_err-count.ensures) in
+    let e = refused_at (cipher g) k bs (length s) key_is.long room f (counted g k c.in-Ok.key bs (Err f) key_is.same c.in_err-count.ensures.answer) in
     let res = err_from_is_err_and c.from_residual.result c.from_residual.ensures.1 in
     record {
       answer = ap told (res.1 ∙ ap Err res.2) ∙ ap passes (sym e);
       fills = c.empty.ensures ∙ ap filled (sym e);
-      scratch = wiped_over k s c.fill.new.self _ key_is.long room (search rules) (c.fill.ensures.after (λ y e. e));
+      scratch = wiped_over k s _ key_is.long room c.in_err-count.ensures.zero;
       as_written = reads_as_written (cipher g) (laws g);
       writable = all_writable (cipher g) (laws g);
       once = reads_once (cipher g);
@@ -72,7 +69,7 @@ invariant_of-card g c =
     let s = c.args.scratch.now in
     let key_is = c.in-Ok.ensures.1 in
     let room : 4096 ≤ length s = search rules in
-    let x = filled_at (cipher g) k bs (length s) key_is.long room c.in_ok-count.count (counted g k c.in-Ok.key bs _ key_is.same c.in_ok-count.ensures) in
+    let x = filled_at (cipher g) k bs (length s) key_is.long room c.in_ok-count.count (counted g k c.in-Ok.key bs _ key_is.same c.in_ok-count.ensures.answer) in
     record {
       runs = λ _. ap (λ r. place_of r bs (suc c.in_ok-count.count)) (c.RATE.ensures ∙ g.met.S.Suite.rate_is) ∙ x.runs;
       none = λ none. absurd (omega (arith, x.long));
@@ -86,11 +83,11 @@ returns g c =
     let s = c.args.scratch.now in
     let key_is = c.in-Ok.ensures.1 in
     let room : 4096 ≤ length s = search rules in
-    let x = filled_at (cipher g) k bs (length s) key_is.long room c.in_ok-count.count (counted g k c.in-Ok.key bs _ key_is.same c.in_ok-count.ensures) in
+    let x = filled_at (cipher g) k bs (length s) key_is.long room c.in_ok-count.count (counted g k c.in-Ok.key bs _ key_is.same c.in_ok-count.ensures.answer) in
     record {
       answer = ap passes (sym x.is);
       fills = same_card bs key_is.same (c.VERSION.ensures ∙ g.met.S.Suite.version_is) (c.RATE.ensures ∙ g.met.S.Suite.rate_is) (sym x.many) ∙ ap filled (sym x.is);
-      scratch = wiped_over k s c.fill.new.self _ key_is.long room (search rules) (c.fill.ensures.after (λ y e. e));
+      scratch = wiped_over k s _ key_is.long room c.in_ok-count.ensures.zero;
       as_written = reads_as_written (cipher g) (laws g);
       writable = all_writable (cipher g) (laws g);
       once = reads_once (cipher g);

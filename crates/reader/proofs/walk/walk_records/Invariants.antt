@@ -4,10 +4,10 @@ use Rattle.cards.proofs.Counting.{total}
 use Rattle.spoc.specs.Sealing.{spoc}
 use Rattle.reader.proofs.walk.walk_records.Given as goal
 
-abbrev pub invariant-loop-record : goal.invariant-loop-record
-invariant-loop-record g l =
+abbrev pub invariant-loop-body : goal.invariant-loop-body
+invariant-loop-body g l =
     (l.rest.number ≤ 512)
     × (total (spoc g.S.Bijection.meaning g.S.SuiteModel.plan) l.key.key.now l.key.header.now l.rest.number l.rest.place l.rest.bytes.now ≡ how_many 0 (walk (spoc g.S.Bijection.meaning g.S.SuiteModel.plan) l.key.key.now l.key.header.now 512 0 13 l.initial.rest.bytes.now))
 
-abbrev pub decreases-loop-record : goal.decreases-loop-record
-decreases-loop-record g l = 513 - l.rest.number
+abbrev pub decreases-loop-body : goal.decreases-loop-body
+decreases-loop-body g l = 513 - l.rest.number

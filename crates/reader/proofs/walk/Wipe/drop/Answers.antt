@@ -1,0 +1,7 @@
+use Rattle.std.proofs.Common.{◌≡◌, length, replicate, ap, ◌∙◌, rules}
+use Rattle.reader.proofs.walk.Wipe.drop.Goals as goal
+
+pub returns : goal.returns
+returns c =
+    let all : length c.args.self.bytes.now ≡ 4096 = search rules in
+    c.fill.ensures.after (λ y e. e) ∙ ap (λ n. replicate n 0) all
