@@ -141,6 +141,13 @@ impl From<RecordFault> for CardFault {
 }
 
 impl CardFault {
+    // A fault of the cipher, before any record.
+    pub fn of_cipher(fault: SealFault) -> CardFault
+        ensures { result ≡ card.Record (rec.Seal (at fault 0 0)) }
+    {
+        CardFault::Record(RecordFault::Seal(At::new(fault, 0, 0)))
+    }
+
     // The number of the question that got a no.
     pub fn number(&self) -> u8
         ensures { result ≡ (of_card self.now).number }

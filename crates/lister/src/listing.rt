@@ -1,12 +1,12 @@
 ghost use Rattle.std.specs.Prelude.{◌≡◌, List, ◌++◌, IfOk, Ok, Some, string_bytes};
 ghost use Rattle.spoc.specs.Sealing.{spoc as spoc_of};
-ghost use Rattle.cards.specs.Faults.{at, told};
+ghost use Rattle.cards.specs.Faults.{told};
 ghost use Rattle.cards.specs.Format.{Sheet};
 ghost use Rattle.reader.specs.Cards.{shown};
 ghost use Rattle.lister.specs.declared.listing.Unlisted.TheVariants.{Refused, Memory};
 ghost use Rattle.lister.specs.Printed.{card_line, sheet_line, sheet_lines, listed, header_asked, card_listed, input_listed, listing_text, Says, Holds};
 
-use cards::{At, CardFault, CardNo, HEADER_BYTES, MARK, MOST_BODY, RecordFault};
+use cards::{CardFault, CardNo, HEADER_BYTES, MARK, MOST_BODY};
 use permutations::Bench;
 use reader::{Card, SheetHead, check, sheet};
 use spoc::{NoSuchVersion, SealFault, Spoc64, Spoc128, Suite, SuiteName};
@@ -159,22 +159,15 @@ fn list_card(heap: Global, key: &[u8; 16], bytes: &[u8]) -> Result<String, Unlis
     }
 }
 
-// A fault of the input's length.
-fn length_fault(fault: SealFault) -> CardFault
-    ensures { result ≡ CardFault.Record (RecordFault.Seal (at fault 0 0)) }
-{
-    RecordFault::from(At::new(fault, 0, 0)).into()
-}
-
 // What is printed of an input.
 fn list_input(heap: Global, input: &[u8]) -> Result<String, Unlisted>
     ensures { Says result (input_listed input.now) }
 {
     let (key, bytes) = input
         .split_first_chunk::<16>()
-        .ok_or(length_fault(SealFault::KeyLength))?;
+        .ok_or(CardFault::of_cipher(SealFault::KeyLength))?;
     if input.len() > MOST_INPUT {
-        return Err(Unlisted::Refused(length_fault(SealFault::TooLong)));
+        return Err(Unlisted::Refused(CardFault::of_cipher(SealFault::TooLong)));
     }
     list_card(heap, key, bytes)
 }

@@ -1,14 +1,14 @@
 ghost use Rattle.std.specs.Prelude.{◌≡◌, length, replicate};
 ghost use Rattle.spoc.specs.Sealing.{spoc as spoc_of};
 ghost use Rattle.cards.specs.Claims.{ReadsAsWritten, AllWritable, ReadsOnce};
-ghost use Rattle.cards.specs.Faults.{at, told};
+ghost use Rattle.cards.specs.Faults.{told};
 ghost use Rattle.cards.specs.Reader.{check as check_of, check_bytes, filled, how_many, scratch_after, walk};
 ghost use Rattle.reader.specs.Cards.{shown, passes};
 
 use crate::card::Card;
 use crate::key::CardKey;
 use crate::rest::{Record, Rest};
-use cards::{At, CardFault, CardNo, HEAD_BYTES, HEADER_BYTES, MARK, MOST_BODY, RecordFault};
+use cards::{CardFault, CardNo, HEAD_BYTES, HEADER_BYTES, MARK, MOST_BODY};
 use spoc::{SealFault, Suite};
 
 // Walks the records of a card, and counts the sheets.
@@ -75,13 +75,6 @@ fn walk_card<const B: usize, S: Suite<B>>(
     )
 }
 
-// A fault of the cipher, before any record.
-fn unready(fault: SealFault) -> CardFault
-    ensures { result ≡ CardFault.Record (RecordFault.Seal (at fault 0 0)) }
-{
-    RecordFault::from(At::new(fault, 0, 0)).into()
-}
-
 // Checks a card under a suite and a key, and fills `card`: with the checked card, or after a no with the empty one.
 //
 // Over every suite, bytes read as a list of sheets exactly when writing that list gives those bytes, every list that append takes can be written so,
@@ -101,10 +94,10 @@ pub fn check<'a, const B: usize, S: Suite<B>>(
 {
     *card = Card::empty();
     let Ok(key) = <[u8; 16]>::try_from(key) else {
-        return Err(unready(SealFault::KeyLength));
+        return Err(CardFault::of_cipher(SealFault::KeyLength));
     };
     let Some(part) = scratch.first_chunk_mut::<MOST_BODY>() else {
-        return Err(unready(SealFault::OutputShort));
+        return Err(CardFault::of_cipher(SealFault::OutputShort));
     };
     let count = walk_card::<B, S>(&key, bytes, part)?;
     *card = Card {

@@ -4,7 +4,8 @@
 #[cfg(test)]
 mod tests {
     use permutations::Bench;
-    use spoc::{SealFault, Spoc64, Spoc128};
+    use spoc::{SealFault, Spoc64, Spoc128, Suite};
+    use std::process::Abort;
 
     // Both vectors have one key, nonce, data and message.
     const KEY: [u8; 16] = [
@@ -40,40 +41,36 @@ mod tests {
         0x1B,
     ];
 
-    #[test]
-    fn spoc64_vector_is_sealed_and_opened(rt: HostRuntime) {
+    // The vector of a suite is sealed, and opens again.
+    fn sealed_and_opened<const B: usize, S: Suite<B>, const R: usize>(
+        rt: &impl Abort,
+        ciphertext: [u8; 15],
+        tag: [u8; R],
+    ) {
         let mut out = [0; 15];
-        let mut tag = [0; 8];
+        let mut sealed = [0; R];
         assert_eq!(rt;
-            spoc::seal::<24, Spoc64>(&KEY, &NONCE, &DATA, &MESSAGE, &mut out, &mut tag),
+            spoc::seal::<B, S>(&KEY, &NONCE, &DATA, &MESSAGE, &mut out, &mut sealed),
             Ok(())
         );
-        assert_eq!(rt; out, CIPHERTEXT_64);
-        assert_eq!(rt; tag, TAG_64);
+        assert_eq!(rt; out, ciphertext);
+        assert_eq!(rt; sealed, tag);
         let mut message = [0; 15];
         assert_eq!(rt;
-            spoc::open::<24, Spoc64>(&KEY, &NONCE, &DATA, &CIPHERTEXT_64, &mut message, &TAG_64),
+            spoc::open::<B, S>(&KEY, &NONCE, &DATA, &ciphertext, &mut message, &tag),
             Ok(())
         );
         assert_eq!(rt; message, MESSAGE);
     }
 
     #[test]
+    fn spoc64_vector_is_sealed_and_opened(rt: HostRuntime) {
+        sealed_and_opened::<24, Spoc64, 8>(&rt, CIPHERTEXT_64, TAG_64);
+    }
+
+    #[test]
     fn spoc128_vector_is_sealed_and_opened(rt: HostRuntime) {
-        let mut out = [0; 15];
-        let mut tag = [0; 16];
-        assert_eq!(rt;
-            spoc::seal::<32, Spoc128>(&KEY, &NONCE, &DATA, &MESSAGE, &mut out, &mut tag),
-            Ok(())
-        );
-        assert_eq!(rt; out, CIPHERTEXT_128);
-        assert_eq!(rt; tag, TAG_128);
-        let mut message = [0; 15];
-        assert_eq!(rt;
-            spoc::open::<32, Spoc128>(&KEY, &NONCE, &DATA, &CIPHERTEXT_128, &mut message, &TAG_128),
-            Ok(())
-        );
-        assert_eq!(rt; message, MESSAGE);
+        sealed_and_opened::<32, Spoc128, 16>(&rt, CIPHERTEXT_128, TAG_128);
     }
 
     #[test]

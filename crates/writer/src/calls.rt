@@ -7,7 +7,7 @@ ghost use Rattle.writer.specs.Stands.{Stands, Starts, Back, closing};
 
 use crate::writer::{Unclosed, Writer};
 use cards::{
-    At, CardFault, CardNo, HEAD_BYTES, HEADER_BYTES, Kind, MOST_BODY, MOST_SHEETS, RecordFault,
+    CardFault, CardNo, HEAD_BYTES, HEADER_BYTES, Kind, MOST_BODY, MOST_SHEETS, RecordFault,
     RecordNo, make_head, make_header,
 };
 use spoc::{SealFault, Suite};
@@ -20,7 +20,7 @@ impl<const B: usize, S: Suite<B> + Drop> Writer<B, S> {
         ensures medium { medium.new ≡ start_medium (spoc_of S.Bijection.meaning S.SuiteModel.plan) key.now number medium.old }
     {
         let Ok(key) = <[u8; 16]>::try_from(key) else {
-            return Err(RecordFault::from(At::new(SealFault::KeyLength, 0, 0)).into());
+            return Err(CardFault::of_cipher(SealFault::KeyLength));
         };
         if medium.len() < HEADER_BYTES + HEAD_BYTES + S::RATE {
             return Err(CardNo::MediumShort.at(0, 0));

@@ -1,5 +1,4 @@
-use Rattle.std.proofs.Common.{◌/◌, ◌^◌, arith}
-use lib.Bits.{and_mask}
+use Rattle.std.proofs.Common.{arith}
 use Rattle.permutations.proofs.Widths.{byte_fits}
 use Rattle.permutations.proofs.simeck.round_word.Goals as goal
 

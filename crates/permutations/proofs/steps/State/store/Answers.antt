@@ -1,6 +1,5 @@
-use Rattle.std.proofs.Common.{◌≡◌, ℕ, ◌*◌, take, length, sym, ap, ◌∙◌, subst, mul_comm, zero-mul, arith, take_all}
+use Rattle.std.proofs.Common.{◌≡◌, ◌*◌, take, length, ap, ◌∙◌, zero-mul, arith}
 use Rattle.permutations.specs.Bytes.{stores}
-use Rattle.permutations.specs.Light.{words}
 use Rattle.permutations.specs.Words.{part_end, stores_more}
 use Rattle.permutations.proofs.steps.State.store.Goals as goal
 
