@@ -110,7 +110,7 @@ impl fmt::Display for SheetLine {
     }
 }
 
-// A card's lines, with those of its sheets after the text.
+// A card's lines, with those of its sheets after the text. Sheets are asked for by their numbers.
 fn list_sheets<const B: usize, S: Suite<B>>(
     card: &Card<'_>,
     mut text: String,
