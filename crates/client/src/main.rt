@@ -39,13 +39,9 @@ fn read(rt: &HostRuntime, bytes: &[u8]) -> anyhow::Result<()> {
     Ok(())
 }
 
-fn run(rt: &HostRuntime) -> anyhow::Result<()> {
+fn main(rt: HostRuntime) -> anyhow::Result<()> {
     let mut medium = [0; 256];
     let length = write(&mut medium)?;
     let bytes = medium.get(0..length).context("length")?;
-    read(rt, bytes)
-}
-
-fn main(rt: HostRuntime) -> anyhow::Result<()> {
-    run(&rt)
+    read(&rt, bytes)
 }

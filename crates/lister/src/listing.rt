@@ -31,8 +31,8 @@ impl TryFrom<&[u8]> for Header {
     ghost try_from_gives = { λ bytes r. told r ≡ header_asked bytes.now };
 
     fn try_from(bytes: &[u8]) -> Result<Header, CardFault> {
-        let (header, _) = bytes
-            .split_first_chunk::<HEADER_BYTES>()
+        let header = bytes
+            .first_chunk::<HEADER_BYTES>()
             .ok_or(CardNo::Cut.at(0, 0))?;
         let [s, e, a, v0, v1, c0, c1, c2, c3, c4, c5, c6, c7] = *header;
         if [s, e, a] != *MARK {
@@ -110,7 +110,7 @@ impl fmt::Display for SheetLine {
     }
 }
 
-// A card's lines, with those of its sheets after the text.
+// A card's lines, with those of its sheets after the text. Sheets are asked for by their numbers.
 fn list_sheets<const B: usize, S: Suite<B>>(
     card: &Card<'_>,
     mut text: String,

@@ -18,12 +18,8 @@ fn read_input(rt: &HostRuntime) -> io::Result<Vec<u8>> {
     Ok(input)
 }
 
-fn run(rt: &HostRuntime) -> anyhow::Result<()> {
-    let input = read_input(rt)?;
+fn main(rt: HostRuntime) -> anyhow::Result<()> {
+    let input = read_input(&rt)?;
     rt.print(list(rt.alloc(), input.as_slice())?)?;
     Ok(())
-}
-
-fn main(rt: HostRuntime) -> anyhow::Result<()> {
-    run(&rt)
 }

@@ -55,24 +55,15 @@ pub enum PermutationName {
     Bench,
 }
 
-impl PermutationName {
-    // The word that names it.
-    fn text(self) -> &'static str
-        ensures { result.now ≡ name_text self }
-    {
-        match self {
-            PermutationName::Light192 => "192",
-            PermutationName::Light256 => "256",
-            PermutationName::Bench => "bench",
-        }
-    }
-}
-
 impl fmt::Display for PermutationName {
     ghost output = { λ n. Some (name_text n) };
 
     fn fmt<W: fmt::Write>(&self, f: &mut fmt::Formatter<W>) -> fmt::Result {
-        f.write_str(self.text())
+        f.write_str(match self {
+            PermutationName::Light192 => "192",
+            PermutationName::Light256 => "256",
+            PermutationName::Bench => "bench",
+        })
     }
 }
 

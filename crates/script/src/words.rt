@@ -47,7 +47,7 @@ impl<'a> Words<'a> {
         Ok(word)
     }
 
-    // Whether every word has been read.
+    // Whether every word has been read. Here None is the good answer, which no ok_or gives.
     pub fn finish(&self) -> Result<(), Unread>
         ensures { result ≡ ending (left self.now) }
     {

@@ -8,18 +8,14 @@ mod walks;
 
 use std::env;
 
-fn run_asked(rt: &HostRuntime) -> anyhow::Result<()> {
-    for word in env::args(rt)? {
+fn main(rt: HostRuntime) -> anyhow::Result<()> {
+    for word in env::args(&rt)? {
         match word.as_str() {
-            "permutations" => walks::permutations(rt)?,
-            "cipher" => cipher::suites(rt)?,
-            "cards" => checks::suites(rt)?,
+            "permutations" => walks::permutations(&rt)?,
+            "cipher" => cipher::suites(&rt)?,
+            "cards" => checks::suites(&rt)?,
             _ => {}
         }
     }
     Ok(())
-}
-
-fn main(rt: HostRuntime) -> anyhow::Result<()> {
-    run_asked(&rt)
 }

@@ -38,7 +38,7 @@ impl fmt::Display for Step<'_> {
     }
 }
 
-// The state, and the state after each step.
+// The state, and the state after each step. Steps are taken by their numbers.
 fn trace<const B: usize, P: Stepped<B>>(
     heap: Global,
     mut state: [u8; B],

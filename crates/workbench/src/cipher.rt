@@ -188,7 +188,7 @@ fn run_open<const B: usize, S: Suite<B>>(
     Ok(OpenRun { answer, out })
 }
 
-// The words after the message: none.
+// Seal has no more words.
 fn call_seal<const B: usize, S: Suite<B>>(
     heap: Global,
     given: &Given,
@@ -201,7 +201,7 @@ fn call_seal<const B: usize, S: Suite<B>>(
     Ok(sealed.to_string(heap)?)
 }
 
-// TAG
+// Open's own words: TAG.
 fn call_open<const B: usize, S: Suite<B>>(
     heap: Global,
     given: &Given,
@@ -215,7 +215,7 @@ fn call_open<const B: usize, S: Suite<B>>(
     Ok(opened.to_string(heap)?)
 }
 
-// ROOM WIDTH
+// Those of seal-into: ROOM WIDTH.
 fn call_seal_into<const B: usize, S: Suite<B>>(
     heap: Global,
     given: &Given,
@@ -230,7 +230,7 @@ fn call_seal_into<const B: usize, S: Suite<B>>(
     Ok(SealedInto(&sealed).to_string(heap)?)
 }
 
-// TAG ROOM
+// Those of open-into: TAG ROOM.
 fn call_open_into<const B: usize, S: Suite<B>>(
     heap: Global,
     given: &Given,
