@@ -95,7 +95,7 @@ pub enum CardNo {
 }
 
 impl CardNo {
-    // This no as the fault of a card.
+    // This no as the fault of a card: as a record has it, each in its own layer, which a trait over both would take longer to say.
     pub fn at(self, record: usize, place: usize) -> CardFault
         ensures { result ≡ card.Own (at self «record» place) }
     {

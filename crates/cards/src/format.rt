@@ -25,7 +25,7 @@ pub fn make_header(version: u16, number: u64) -> [u8; 13]
     header
 }
 
-// The head of a record.
+// The head of a record. Its kind is any byte, as Kind would ask more of a caller.
 pub fn make_head(kind: u8, cell: u32, edition: u16, length: u16) -> [u8; 9]
     ensures { result ≡ head kind cell edition length }
 {

@@ -22,10 +22,7 @@ pub(crate) fn front<const N: usize>(bytes: &[u8]) -> &[u8; N]
     requires { N ≤ length bytes.now }
     ensures { result.now ≡ take N bytes.now }
 {
-    match bytes.first_chunk::<N>() {
-        Some(part) => part,
-        None => unreachable(),
-    }
+    bytes.first_chunk::<N>().unwrap()
 }
 
 impl CardKey<'_> {

@@ -21,6 +21,7 @@ fn walk_records<const B: usize, S: Suite<B>>(
     ensures { told result ≡ how_many 0 (walk (spoc_of S.Bijection.meaning S.SuiteModel.plan) key.now.key.now key.now.header.now 512 0 13 records.entry.bytes.now) }
 {
     let mut rest = records;
+    // How many records there are is not known before the end record is read, and each can be refused: no iterator.
     loop {
         match key.read::<B, S>(&rest, scratch)? {
             Record::Sheet { body, .. } => rest = rest.after(HEAD_BYTES + body.len() + S::RATE),

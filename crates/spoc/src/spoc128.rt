@@ -38,6 +38,7 @@ impl Suite<32> for Light256 {
         &MASKED_PLACES
     }
 
+    // The halves that bench has too, in the order of this suite; which order is all that a start says.
     fn start(key: &[u8; 16], nonce: &[u8; 16]) -> [u8; 32] {
         let k = in_halves(key);
         let n = in_halves(nonce);

@@ -41,6 +41,7 @@ pub(crate) fn store_subblocks(subblocks: [u64; 4], width: usize, state: &mut [u8
     requires { (width ≤ 8) × (length state.old ≡ width * 4) }
     ensures { state.new ≡ stores width subblocks }
 {
+    // By index: a proof forgets what is written through chunks_exact_mut.
     for (i, subblock) in subblocks.iter().enumerate() {
         store_last(*subblock, &mut state[i * width..i * width + width]);
     }
