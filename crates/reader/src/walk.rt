@@ -45,8 +45,8 @@ impl Drop for Wipe<'_> {
     fn drop(self)
         ensures { self.exit.0.now ≡ replicate 4096 0 }
     {
-        self.bytes.fill(0);
-        let Wipe { bytes: _ } = self;
+        let Wipe { bytes } = self;
+        bytes.fill(0);
     }
 }
 
