@@ -71,9 +71,17 @@ mod tests {
     ) -> Result<(), Fail>
         requires { (0 < start) × (start ≤ 64) × (0 < append) × (append ≤ 64) }
     {
-        refused(rt, start_on::<B, S>(&mut [7; 64][..start - 1]), (9, 3, 0, 0))?;
+        refused(
+            rt,
+            start_on::<B, S>(&mut [7; 64][..start - 1]),
+            (9, 3, 0, 0),
+        )?;
         assert_eq!(rt; start_on::<B, S>(&mut [7; 64][..start]), Ok(()));
-        refused(rt, append_on::<B, S>(&mut [7; 64][..append - 1]), (9, 2, 0, 13))?;
+        refused(
+            rt,
+            append_on::<B, S>(&mut [7; 64][..append - 1]),
+            (9, 2, 0, 13),
+        )?;
         assert_eq!(rt; append_on::<B, S>(&mut [7; 64][..append]), Ok(0));
         Ok(())
     }
