@@ -1,3 +1,4 @@
 pub mod Said
 pub mod Cards
 pub mod Heads
+pub mod Sheets

@@ -4,8 +4,6 @@ ghost use Rattle.cards.specs.Reader.{Finds};
 ghost use Rattle.reader.specs.Cards.{shown};
 
 use crate::card::Card;
-use crate::rest::Rest;
-use cards::HEAD_BYTES;
 
 // The number of the sheet with a cell and the highest edition, the first among equals, or none if the card has no such cell.
 // Where the card reads as a list of sheets, that is so of the list.
@@ -14,13 +12,11 @@ pub fn find(card: &Card<'_>, cell: u32) -> Option<usize>
     ensures tells { (S : Sealing) → FindTells S }
 {
     let mut best: Option<(usize, u16)> = None;
-    let mut rest = Rest::records(card.bytes);
-    for i in 0..card.count {
+    for rest in card.sheets() {
         let head = rest.head();
         if head.cell == cell && best.is_none_or(|(_, top)| head.edition > top) {
-            best = Some((i, head.edition));
+            best = Some((rest.number, head.edition));
         }
-        rest = rest.after(HEAD_BYTES + head.length + card.rate);
     }
     best.map(|(i, _)| i)
 }

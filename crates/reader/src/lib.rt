@@ -6,6 +6,7 @@ mod empty;
 mod finding;
 mod key;
 mod parsing;
+mod records;
 mod rest;
 mod sheets;
 mod walk;

@@ -8,7 +8,7 @@ ghost use Rattle.reader.specs.Heads.{headed, NoMismatch};
 use crate::card::Card;
 use crate::key::{CardKey, front};
 use crate::rest::{Rest, SheetHead};
-use cards::{CardFault, CardNo, HEAD_BYTES, HEADER_BYTES};
+use cards::{CardFault, CardNo, HEADER_BYTES};
 use spoc::Suite;
 
 impl<'a> Card<'a> {
@@ -19,11 +19,10 @@ impl<'a> Card<'a> {
         ensures bytes { result.bytes.now ≡ drop (place_of self.now.rate self.now.bytes.now i) self.now.bytes.now }
         ensures number { result.number ≡ i }
     {
-        let mut rest = Rest::records(self.bytes);
-        for _n in 0..i {
-            rest = rest.after(HEAD_BYTES + rest.head().length + self.rate);
+        match self.sheets().nth(i) {
+            Some(rest) => rest,
+            None => unreachable(),
         }
-        rest
     }
 }
 
