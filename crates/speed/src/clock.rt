@@ -4,7 +4,7 @@ use std::time::{Duration, Instant};
 const RUNS: u32 = 9;
 
 // The least time of some runs, each of so many calls. A call that fails ends the benchmark.
-pub fn least_time<F: FnMut() -> anyhow::Result<()>>(
+pub(crate) fn least_time<F: FnMut() -> anyhow::Result<()>>(
     rt: &HostRuntime,
     calls: u32,
     mut call: F,
@@ -23,6 +23,6 @@ pub fn least_time<F: FnMut() -> anyhow::Result<()>>(
 }
 
 // Nanoseconds for each of so many calls.
-pub fn each(span: Duration, calls: u32) -> u128 {
+pub(crate) fn each(span: Duration, calls: u32) -> u128 {
     span.as_nanos() / u128::from(calls).max(1)
 }
