@@ -1,5 +1,5 @@
 -- What the ghost fields of a card give: each of its records lies within it.
-use Rattle.std.proofs.Common.{◌≡◌, ℕ, suc, ◌+◌, ◌<◌, ◌≤◌, List, [], ◌∷◌, length, drop, Some, None, sym, refl, ap, ◌∙◌, subst, ⊎_elim, add-one, arith}
+use Rattle.std.proofs.Common.{◌≡◌, ℕ, suc, ◌+◌, ◌<◌, ◌≤◌, List, [], ◌∷◌, length, drop, Some, None, Option, IsSomeAnd, sym, refl, ap, ◌∙◌, subst, ⊎_elim, add-one, arith}
 use Rattle.std.proofs.lemmas.List.{drop-drop, length-drop}
 use Rattle.std.proofs.str.Laws.{order}
 use Rattle.std.specs.Iterator.{Yields, SkipsThenYields}
@@ -36,7 +36,7 @@ held s = record { number = refl; place_is = s.place; bytes = s.bytes }
 pub held_fits : (s : Sheets) → s.rest.number < s.card.now.count → 9 + length_of s.rest.bytes.now + s.card.now.rate ≤ length s.rest.bytes.now
 held_fits s = fits s.card.now s.rest.number s.rest (held s)
 
--- and the rest after that is one again
+-- and so is the rest after that
 pub after_held : (s : Sheets) (y : Rest) (k : ℕ) → k ≡ 9 + length_of s.rest.bytes.now + s.card.now.rate → y.bytes.now ≡ drop k s.rest.bytes.now → y.number ≡ s.rest.number + 1 → y.place ≡ s.rest.place + k → From s.card.now y.number y
 after_held s y k e eb en ep =
     let c = s.card.now in
@@ -53,20 +53,17 @@ passed : (s : Sheets) (xs : List Rest) (t : Sheets) → Yields GivesSheet s xs t
 passed s [] t y = (ap (λ (z : Sheets). z.card.now) (sym y), omega (arith, ap (λ (z : Sheets). z.rest.number) y))
 passed s (x ∷ xs) t y = let on = passed y.0 xs t y.2 in (on.0 ∙ y.1.0, omega (arith, on.1, y.1.1.2))
 
--- sheet i of a card, by nth
-module _ (c : Card) (i : ℕ) (s : Sheets) (same : s.card.now ≡ c) (first : s.rest.number ≡ 0) (h : i < c.count) (u : Sheets) where
-  pub nth_some : (x : Rest) → SkipsThenYields GivesSheet s i (Some x) u → From c i x
-  nth_some x ran =
-      let t = ran.1.0 in
-      let on = passed s ran.0 t ran.1.1 in
-      let n : t.rest.number ≡ i = omega (arith, on.1, first, ran.2) in
-      subst (λ (d : Card). From d i x) (on.0 ∙ same) (subst (λ j. From t.card.now j x) n (subst (From t.card.now t.rest.number) (sym ran.1.2.1.0) (held t)))
-
-  pub nth_none : SkipsThenYields GivesSheet s i None u → ⊥
-  nth_none ran =
-      let t = ran.1.0 in
-      let on = passed s ran.0 t ran.1.1 in
-      omega (arith, on.1, first, ran.2, ran.1.2.1, ap (λ (d : Card). d.count) (on.0 ∙ same), h)
+-- nth gives the rest from sheet i on
+pub nth_is : (c : Card) (i : ℕ) (s : Sheets) (r : Option Rest) (u : Sheets) → s.card.now ≡ c → s.rest.number ≡ 0 → i < c.count → SkipsThenYields GivesSheet s i r u → IsSomeAnd r (From c i)
+nth_is c i s None u same first h ran =
+    let t = ran.1.0 in
+    let on = passed s ran.0 t ran.1.1 in
+    absurd (omega (arith, on.1, first, ran.2, ran.1.2.1, ap (λ (d : Card). d.count) (on.0 ∙ same), h))
+nth_is c i s (Some x) u same first h ran =
+    let t = ran.1.0 in
+    let on = passed s ran.0 t ran.1.1 in
+    let n : t.rest.number ≡ i = omega (arith, on.1, first, ran.2) in
+    subst (λ (d : Card). From d i x) (on.0 ∙ same) (subst (λ j. From t.card.now j x) n (subst (From t.card.now t.rest.number) (sym ran.1.2.1.0) (held t)))
 
 pub header_long : (c : Card) (i : ℕ) → i < c.count → 13 ≤ length c.bytes.now
 header_long c i h = omega (arith, within c i h, place_low c.rate c.bytes.now (suc i))

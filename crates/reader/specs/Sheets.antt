@@ -3,7 +3,7 @@ use Rattle.std.specs.Prelude.{◌≡◌, ◌+◌, ◌<◌, Option, MatchOption}
 use Rattle.reader.specs.declared.records.Sheets.{Sheets}
 use Rattle.reader.specs.declared.rest.Rest.{Rest}
 
--- a call of next gives the rest that begins with the next sheet, or none when all have come
+-- a call of next, over the same card: it gives the rest from the next sheet on, or none when all have come
 abbrev pub GivesSheet : Sheets → Option Rest → Sheets → Type 0
 GivesSheet s r t =
     (t.card.now ≡ s.card.now)

@@ -19,10 +19,7 @@ impl<'a> Card<'a> {
         ensures bytes { result.bytes.now ≡ drop (place_of self.now.rate self.now.bytes.now i) self.now.bytes.now }
         ensures number { result.number ≡ i }
     {
-        match self.sheets().nth(i) {
-            Some(rest) => rest,
-            None => unreachable(),
-        }
+        self.sheets().nth(i).unwrap()
     }
 }
 
