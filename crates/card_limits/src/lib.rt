@@ -128,7 +128,7 @@ mod tests {
         Ok(())
     }
 
-    // Appends as many empty sheets as a card may have.
+    // Appends as many empty sheets as a card may have; each answers its number.
     fn append_most(rt: &impl Abort, writer: &mut Writer<32, Bench>, medium: &mut [u8]) {
         for i in 0..512 {
             assert_eq!(rt; writer.append(medium, 0, 0, &[]), Ok(i));

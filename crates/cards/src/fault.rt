@@ -145,7 +145,7 @@ impl CardFault {
     pub fn of_cipher(fault: SealFault) -> CardFault
         ensures { result ≡ card.Record (rec.Seal (at fault 0 0)) }
     {
-        CardFault::Record(RecordFault::Seal(At::new(fault, 0, 0)))
+        CardFault::from(RecordFault::from(At::new(fault, 0, 0)))
     }
 
     // The number of the question that got a no.

@@ -24,7 +24,7 @@ struct Header {
     number: u64,
 }
 
-// The questions on the header that come before the suite is known.
+// The questions on the header that come before the suite is known; check asks them again, as it promises.
 impl TryFrom<&[u8]> for Header {
     type Error = CardFault;
 

@@ -11,7 +11,7 @@ use std::marker::PhantomData;
 
 // sLiSCP-light over words of a width.
 #[derive_where(Clone, Copy)]
-pub struct Light<W>(PhantomData<W>);
+pub struct Light<W>(pub PhantomData<W>);
 
 // sLiSCP-light-[192]: a state of 24 bytes.
 pub type Light192 = Light<Bits24>;

@@ -29,6 +29,7 @@ pub trait Width {
 
     ghost table: { List StepConstants };
 
+    // This law and the next two stand above the functions, so that the law of a permutation may name them.
     ghost some: { 1 ≤ BYTES };
 
     ghost most: { BYTES ≤ 4 };

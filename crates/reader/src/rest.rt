@@ -36,7 +36,8 @@ impl<'a> Record<'a> {
     }
 }
 
-// The rest of a card from a record on, with the record's number and place.
+// The rest of a card from a record on, with the record's number and place. That a head is all there is asked by parse and known of a
+// checked card, so three contracts ask it, and no field says it of every rest.
 #[derive(Clone, Copy)]
 pub(crate) struct Rest<'a> {
     pub(crate) bytes: &'a [u8],

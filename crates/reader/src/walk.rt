@@ -60,6 +60,7 @@ fn walk_card<const B: usize, S: Suite<B>>(
     ensures zero { scratch.new ≡ replicate 4096 0 }
 {
     let guard = Wipe { bytes: scratch };
+    // The lister asks the first two before it knows a suite, and keeps version and number; here the suite is known, and the bytes are kept.
     let Some(header) = bytes.first_chunk::<HEADER_BYTES>() else {
         return Err(CardNo::Cut.at(0, 0));
     };
@@ -94,6 +95,7 @@ pub fn check<'a, const B: usize, S: Suite<B>>(
     ensures once { ReadsOnce (spoc_of S.Bijection.meaning S.SuiteModel.plan) }
 {
     *card = Card::empty();
+    // By let .. else, as the scratch below: a closure that makes the fault would need a clause of its own.
     let Ok(key) = <[u8; 16]>::try_from(key) else {
         return Err(CardFault::of_cipher(SealFault::KeyLength));
     };

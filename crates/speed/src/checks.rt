@@ -14,6 +14,7 @@ fn write_full<const B: usize, S: Suite<B> + Drop>(medium: &mut [u8]) -> anyhow::
     let mut writer = Writer::<B, S>::start(&KEY, 4, medium)
         .ok()
         .context("start was refused")?;
+    // Each sheet has its number as its cell.
     for cell in 0..MOST_SHEETS {
         writer
             .append(medium, cell as u32, 1, &body)

@@ -16,7 +16,7 @@ pub fn versions() -> [u16; 3]
     ]
 }
 
-// Their rates.
+// Their rates: another constant of the same three, which a function can't take as its argument.
 pub fn rates() -> [usize; 3]
     ensures { result ≡ 8 ∷ 16 ∷ 8 ∷ [] }
 {

@@ -65,7 +65,7 @@ fn flag_of(last: bool) -> u8
 }
 
 // The state of a suite's cipher, which blocks go into. A block is a slice of at most RATE bytes, as six contracts ask: a type for it
-// would be made at two calls and taken apart in all six.
+// would be made at two calls and taken apart in all six. That a part is RATE bytes long is asked of unlike parts: a padded block, and a tag.
 #[derive(Drop)]
 pub(crate) struct Duplex<const B: usize, S> {
     pub(crate) state: [u8; B],

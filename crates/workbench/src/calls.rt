@@ -14,7 +14,7 @@ use std::alloc::{AllocError, Global};
 use std::fmt;
 use std::fmt::Write;
 
-// The line that shows a state.
+// The line that shows a state: all that its two calls answer, so it is a String at once.
 fn state_line(heap: Global, state: &[u8]) -> Result<String, AllocError>
     ensures { IfOk result (λ t. string_bytes t ≡ state_text state.now) }
 {

@@ -70,7 +70,7 @@ impl fmt::Display for FirstLine {
     }
 }
 
-// What seal answered, and its buffers. It is printed in one line.
+// What seal answered, and its buffers. It is printed in one line. Open has no tag to give back, so its run is another struct.
 #[derive(Drop)]
 struct SealRun {
     answer: Result<(), SealFault>,

@@ -19,6 +19,7 @@ impl<const B: usize, S: Suite<B> + Drop> Writer<B, S> {
         ensures answer { Starts result medium.new (plain_start (spoc_of S.Bijection.meaning S.SuiteModel.plan) key.now number medium.old) }
         ensures medium { medium.new ≡ start_medium (spoc_of S.Bijection.meaning S.SuiteModel.plan) key.now number medium.old }
     {
+        // By let .. else: a closure that makes the fault would need a clause of its own.
         let Ok(key) = <[u8; 16]>::try_from(key) else {
             return Err(CardFault::of_cipher(SealFault::KeyLength));
         };
