@@ -34,17 +34,17 @@ pub type SealedFault = At<SealFault>;
 #[derive(Clone, Copy, Debug, PartialEq, Eq)]
 pub enum RecordNo {
     // The body has more than 4,096 bytes.
-    BodyLong,
+    BodyLong = 7,
     // There are 512 sheets already.
-    SheetsFull,
+    SheetsFull = 8,
     // The medium does not hold this record and an end record.
-    MediumShort,
+    MediumShort = 9,
     // Head, or body and tag, are not all there.
-    Cut,
+    Cut = 10,
     // The kind is neither sheet nor end.
-    Kind,
+    Kind = 13,
     // The end record does not say how many sheets there are, or has an edition or a length.
-    End,
+    End = 14,
 }
 
 impl RecordNo {
@@ -59,14 +59,7 @@ impl RecordNo {
     fn number(&self) -> u8
         ensures { result ≡ record_number self.now }
     {
-        match self {
-            RecordNo::BodyLong => 7,
-            RecordNo::SheetsFull => 8,
-            RecordNo::MediumShort => 9,
-            RecordNo::Cut => 10,
-            RecordNo::Kind => 13,
-            RecordNo::End => 14,
-        }
+        *self as u8
     }
 }
 
@@ -81,17 +74,17 @@ pub enum RecordFault {
 #[derive(Clone, Copy, Debug, PartialEq, Eq)]
 pub enum CardNo {
     // The medium does not hold a header and an end record, or the end record.
-    MediumShort,
+    MediumShort = 9,
     // The header is not all there.
-    Cut,
+    Cut = 10,
     // The mark is not SEA.
-    Mark,
+    Mark = 11,
     // The version is not the suite's, or of a checked card the rate.
-    Version,
+    Version = 12,
     // Bytes are left after the end record.
-    Left,
+    Left = 15,
     // There is no sheet of that number.
-    Number,
+    Number = 16,
 }
 
 impl CardNo {
@@ -106,14 +99,7 @@ impl CardNo {
     fn number(&self) -> u8
         ensures { result ≡ card_number self.now }
     {
-        match self {
-            CardNo::MediumShort => 9,
-            CardNo::Cut => 10,
-            CardNo::Mark => 11,
-            CardNo::Version => 12,
-            CardNo::Left => 15,
-            CardNo::Number => 16,
-        }
+        *self as u8
     }
 }
 

@@ -6,18 +6,15 @@ use crate::fault::RecordNo;
 // The kind of a record, which is its head's first byte.
 #[derive(Clone, Copy, Debug, PartialEq, Eq)]
 pub enum Kind {
-    Sheet,
-    End,
+    Sheet = 1,
+    End = 2,
 }
 
 impl From<Kind> for u8 {
     ghost from_gives = { λ kind byte. byte ≡ kind_byte kind };
 
     fn from(kind: Kind) -> u8 {
-        match kind {
-            Kind::Sheet => 1,
-            Kind::End => 2,
-        }
+        kind as u8
     }
 }
 

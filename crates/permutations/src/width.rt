@@ -40,7 +40,8 @@ pub trait Width {
     fn constants() -> &'static [StepConstants; STEPS]
         ensures { result.now ≡ table };
 
-    // A word turned left.
+    // A word turned left. Each width has its own: the project's rule is that a word turns by the rotate method, and one of 24 bits needs a
+    // copy of itself beside it for that.
     fn turn(x: u32, by: u32) -> u32
         requires { (x < 2 ^ (8 * BYTES)) × ((1 ≤ by) × (by ≤ 8)) }
         ensures { result ≡ turned (8 * BYTES) by x };
@@ -139,7 +140,6 @@ impl Width for Bits32 {
         &CONSTANTS_256
     }
 
-    // The words of 24 bits can't be turned by this, so each width has a turn of its own.
     fn turn(x: u32, by: u32) -> u32 {
         x.rotate_left(by)
     }

@@ -1,11 +1,19 @@
 -- The questions of check in their order.
-use Rattle.std.proofs.Common.{◌≡◌, ℕ, suc, ◌+◌, ◌≤◌, List, length, Ok, Err, Result, sym, refl, ap, ◌∙◌, arith}
+use Rattle.std.proofs.Common.{◌≡◌, ◌≢◌, ℕ, suc, ◌+◌, ◌≤◌, List, length, Some, Ok, Err, Result, MatchResult, sym, refl, ap, ◌∙◌, arith}
+use Rattle.std.specs.Array.{IsWholeChunk}
+use Rattle.std.specs.Result.{result_ok}
 use Rattle.std.proofs.lemmas.Bool.Decides.{nat_tests}
+use Rattle.std.proofs.lemmas.Option.{none-some}
 use Rattle.spoc.specs.Sealing.{Sealing}
 use Rattle.cards.specs.Faults.{Fault, and_then}
 use Rattle.cards.specs.Format.{Sheet}
 use Rattle.cards.specs.Reader.{check, check_bytes, checked, how_many, place_of}
 use Rattle.cards.proofs.Places.{lies}
+
+-- an array of 16 bytes that try_from and ok gave for a key
+pub read_of : {E : Type 0} (key : List ℕ) (r : Result (List ℕ) E) (k : List ℕ) → MatchResult r (λ y. IsWholeChunk key y 16) (λ _. length key ≢ 16) → result_ok r ≡ Some k → IsWholeChunk key k 16
+read_of key (Ok y) k h e = let same : y ≡ k = cc in rw same at h
+read_of key (Err _) k h e = absurd (none-some k e)
 
 -- past the questions on key and scratch
 pub goes_on : (S : Sealing) (key bs : List ℕ) (n : ℕ) → length key ≡ 16 → 4096 ≤ n → check S key n bs ≡ and_then (check_bytes S key bs) (λ xs. Ok (checked S key bs xs))

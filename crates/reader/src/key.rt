@@ -26,7 +26,8 @@ pub(crate) fn front<const N: usize>(bytes: &[u8]) -> &[u8; N]
 }
 
 impl CardKey<'_> {
-    // Opens a body of the record at the front into a buffer; a fault has the record's number, and a place.
+    // Opens a body of the record at the front into a buffer; a fault has the record's number, and a place. That the tag is as long as the
+    // rate is asked here alone: a record's type says it of no tag, as it knows no suite.
     fn open<const B: usize, S: Suite<B>>(
         &self,
         rest: &Rest<'_>,

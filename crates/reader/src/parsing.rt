@@ -91,10 +91,9 @@ impl<'a> Rest<'a> {
         if self.bytes.len() < HEAD_BYTES {
             return Err(RecordNo::Cut.at(self.number, self.place));
         }
-        // The no of try_from has no place; a closure that adds it would need a clause of its own.
-        let Ok(kind) = Kind::try_from(self.bytes[0]) else {
-            return Err(RecordNo::Kind.at(self.number, self.place));
-        };
+        let kind = Kind::try_from(self.bytes[0])
+            .ok()
+            .ok_or(RecordNo::Kind.at(self.number, self.place))?;
         let head = self.head();
         self.ask(kind, head)?;
         if self.bytes.len() < HEAD_BYTES + head.length + rate {

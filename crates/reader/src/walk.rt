@@ -61,13 +61,14 @@ fn walk_card<const B: usize, S: Suite<B>>(
 {
     let guard = Wipe { bytes: scratch };
     // The lister asks the first two before it knows a suite, and keeps version and number; here the suite is known, and the bytes are kept.
-    let Some(header) = bytes.first_chunk::<HEADER_BYTES>() else {
-        return Err(CardNo::Cut.at(0, 0));
-    };
-    if &header[0..3] != MARK.as_slice() {
+    let header = bytes
+        .first_chunk::<HEADER_BYTES>()
+        .ok_or(CardNo::Cut.at(0, 0))?;
+    let [m0, m1, m2, v0, v1, ..] = *header;
+    if [m0, m1, m2] != *MARK {
         return Err(CardNo::Mark.at(0, 0));
     }
-    if u16::from_be_bytes([header[3], header[4]]) != S::VERSION {
+    if u16::from_be_bytes([v0, v1]) != S::VERSION {
         return Err(CardNo::Version.at(0, 3));
     }
     walk_records::<B, S>(
@@ -95,13 +96,12 @@ pub fn check<'a, const B: usize, S: Suite<B>>(
     ensures once { ReadsOnce (spoc_of S.Bijection.meaning S.SuiteModel.plan) }
 {
     *card = Card::empty();
-    // By let .. else, as the scratch below: a closure that makes the fault would need a clause of its own.
-    let Ok(key) = <[u8; 16]>::try_from(key) else {
-        return Err(CardFault::of_cipher(SealFault::KeyLength));
-    };
-    let Some(part) = scratch.first_chunk_mut::<MOST_BODY>() else {
-        return Err(CardFault::of_cipher(SealFault::OutputShort));
-    };
+    let key = <[u8; 16]>::try_from(key)
+        .ok()
+        .ok_or(CardFault::of_cipher(SealFault::KeyLength))?;
+    let part = scratch
+        .first_chunk_mut::<MOST_BODY>()
+        .ok_or(CardFault::of_cipher(SealFault::OutputShort))?;
     let count = walk_card::<B, S>(&key, bytes, part)?;
     *card = Card {
         bytes,

@@ -1,9 +1,9 @@
 -- Cutting into blocks, and the rows of masks that they give. Assumes nothing.
-use Rattle.std.proofs.Common.{◌≡◌, ℕ, zero, suc, ◌+◌, ◌-◌, ◌<◌, ◌≤◌, min, Bool, true, false, ◌&&◌, eqb, List, [], ◌∷◌, ◌++◌, map, length, take, drop, set, sym, refl, ap, ◌∙◌, ap₂, ⊎_elim, append_assoc, append-nil, arith}
+use Rattle.std.proofs.Common.{◌≡◌, ℕ, zero, suc, ◌+◌, ◌*◌, ◌-◌, ◌<◌, ◌≤◌, min, Bool, true, false, ◌&&◌, eqb, List, [], ◌∷◌, ◌++◌, map, length, take, drop, set, sym, refl, ap, ◌∙◌, ap₂, ⊎_elim, append_assoc, append-nil, arith}
 use borrow.Rule.Slice.PartMut.{put_mid}
 use lib.Bits.{bit_xor}
 use Rattle.std.specs.List.{flat_map, AllByRecursion}
-use Rattle.std.proofs.lemmas.List.{take-append-drop, length-append, length-take, length-drop, take_at, drop_at, take_all, drop_all, drop-drop, nil_from_length, set-set, get_or-set_same, length-replicate}
+use Rattle.std.proofs.lemmas.List.{take-append-drop, length-append, length-take, length-drop, take_at, drop_at, take_all, drop_all, nil_from_length, set-set, get_or-set_same, length-replicate}
 use Rattle.std.proofs.lemmas.Slice.{take-put_mid}
 use Rattle.std.proofs.lemmas.Bool.{cases_lt, ne_eqb, eq-eqb}
 use Rattle.permutations.specs.Bytes.{xors}
@@ -72,33 +72,37 @@ pub record First (r : ℕ) (rest x t : List ℕ) : Type 0 where
   pub wide : length x ≡ min r (length rest)
   pub some : 0 < length rest
 
--- the block of s from `at` to `end`
-module _ (r : ℕ) (s : List ℕ) (at end : ℕ) (low : 1 ≤ r) (inside : at < length s) (is : end ≡ min (length s) (at + r)) where
-  pub block_end : end ≡ at + length (take (end - at) (drop at s))
-  block_end = omega (arith, length-take (end - at) (drop at s), length-drop at s)
+-- chunks of r0 bytes, which is r, say so
+pub first_chunk : (r r0 : ℕ) (rest x t : List ℕ) → r0 ≡ r → (rest ≡ x ++ t) × (length x ≡ min r0 (length rest)) × (0 < length rest) → First r rest x t
+first_chunk r r0 rest x t e k = record { is = k.0; wide = rw e at k.1; some = k.2 }
 
-  rest_is : drop (end - at) (drop at s) ≡ drop (at + r) s
-  rest_is =
-      ⊎_elim
-      (λ h. drop_all (end - at) (drop at s) (omega (arith, length-drop at s)) ∙ sym (drop_all (at + r) s (omega arith)))
-      (λ h. drop-drop (end - at) at s ∙ ap (λ n. drop n s) (omega arith))
-      (cases_lt (length s) (at + r))
+-- it is block i of a list of n bytes
+module _ (r n i : ℕ) (rest x t : List ℕ) (k : First r rest x t) (left : length rest ≡ n - i * r) where
+  parts : length rest ≡ length x + length t
+  parts = ap length k.is ∙ length-append x t
 
-  pub first_at : First r (drop at s) (take (end - at) (drop at s)) (drop (at + r) s)
-  first_at =
-      record {
-        is = sym (take-append-drop (end - at) (drop at s)) ∙ ap (λ t. take (end - at) (drop at s) ++ t) rest_is;
-        wide = omega (arith, length-take (end - at) (drop at s), length-drop at s);
-        some = omega (arith, length-drop at s);
-      }
+  pub next_left : length t ≡ n - (i + 1) * r
+  next_left = omega (arith, parts, k.wide)
 
   -- it is the last exactly when nothing is left
-  pub last_at : eqb end (length s) ≡ eqb (length (drop (at + r) s)) 0
-  last_at =
+  last_is : eqb (i * r + length x) n ≡ eqb (length t) 0
+  last_is =
       ⊎_elim
-      (λ h. ne_eqb end (length s) (λ e. omega arith) ∙ sym (ne_eqb (length (drop (at + r) s)) 0 (λ e. omega (arith, length-drop (at + r) s))))
-      (λ h. eq-eqb end (length s) (omega arith) ∙ sym (eq-eqb (length (drop (at + r) s)) 0 (omega (arith, length-drop (at + r) s))))
-      (cases_lt (at + r) (length s))
+      (λ h. ne_eqb (i * r + length x) n (λ e. omega (arith, parts)) ∙ sym (ne_eqb (length t) 0 (λ e. omega arith)))
+      (λ h. eq-eqb (i * r + length x) n (omega (arith, parts, k.some)) ∙ sym (eq-eqb (length t) 0 (omega arith)))
+      (cases_lt 0 (length t))
+
+  -- where it begins and ends
+  pub begins : n - length rest ≡ i * r
+  begins = omega (arith, left, k.some)
+
+  pub goes_to : n - length t ≡ i * r + length x
+  goes_to = omega (arith, parts, left, k.some)
+
+  -- its control byte, as code tells it with r1 and r2 for the rate
+  pub control_is : (c : ℕ) (e : Bool) (r1 r2 cb : ℕ) → r1 ≡ r → r2 ≡ r → cb ≡ control_byte r2 c x (e && eqb (i * r1 + length x) n)
+      → cb ≡ control_byte r c x (e && eqb (length t) 0)
+  control_is c e r1 r2 cb e1 e2 is = is ∙ ap₂ (λ m l. control_byte m c x (e && eqb (i * l + length x) n)) e2 e1 ∙ ap (λ b. control_byte r c x (e && b)) last_is
 
 -- ---- a turn of a loop over the blocks
 
@@ -131,18 +135,6 @@ module _ (p : Perm) (q : Plan) (laws : Sound p q) where
         ap (λ z. run p z (ended_if e q (masks p q c t))) (e' ∙ ap (λ n. p.forward (xors s (mask_with p q n x))) ec)
         ∙ sym (ap (λ bs. run p s (ended_if e q (map (mask p q c) bs))) turn_blocks ∙ ap (run p s) (ended_first e c x t))
         ∙ inv
-
-  -- a turn of a loop over data, from `at` to `end`; r, r1 and r2 are the rate
-  pub turn_at : (c : ℕ) (e : Bool) (ds : List ℕ) (at end cb r r1 r2 : ℕ) → r ≡ q.rate → r1 ≡ q.rate → r2 ≡ q.rate → at < length ds → end ≡ min (length ds) (at + r1)
-      → cb ≡ control_byte r2 c (take (end - at) (drop at ds)) (e && eqb end (length ds))
-      → (s s' to : List ℕ) → s' ≡ p.forward (xors s (mask_with p q cb (take (end - at) (drop at ds)))) → run p s (ended_if e q (masks p q c (drop at ds))) ≡ to
-      → run p s' (ended_if e q (masks p q c (drop (at + r) ds))) ≡ to
-  turn_at c e ds at end cb r r1 r2 er er1 er2 inside is ec s s' to e' inv =
-      let x : List ℕ = take (end - at) (drop at ds) in
-      let is' : end ≡ min (length ds) (at + q.rate) = is ∙ ap (λ n. min (length ds) (at + n)) er1 in
-      let ec' = ec ∙ ap₂ (λ n b. control_byte n c x (e && b)) er2 (last_at q.rate ds at end laws.rate_low inside is') in
-      ap (λ n. run p s' (ended_if e q (masks p q c (drop (at + n) ds)))) er
-      ∙ turn c e (drop at ds) x (drop (at + q.rate) ds) cb (first_at q.rate ds at end laws.rate_low inside is') ec' s s' to e' inv
 
   pub run_none : (s : List ℕ) (e : Bool) (c : ℕ) (rest : List ℕ) → length rest ≡ 0 → run p s (ended_if e q (masks p q c rest)) ≡ s
   run_none s true c [] h = refl

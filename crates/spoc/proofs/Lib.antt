@@ -8,3 +8,4 @@ pub mod Octet
 pub mod Opened
 pub mod Questions
 pub mod Sealed
+pub mod Zips

@@ -1,5 +1,5 @@
 -- The loop of open, and of both ways, turn by turn. Assumes nothing.
-use Rattle.std.proofs.Common.{◌≡◌, ℕ, zero, suc, ◌+◌, ◌-◌, ◌<◌, ◌≤◌, min, true, cond, eqb, ltb, List, [], ◌∷◌, ◌++◌, map, length, take, drop, sym, refl, ap, ◌∙◌, ap₂, append_assoc, arith}
+use Rattle.std.proofs.Common.{◌≡◌, ℕ, zero, suc, ◌+◌, ◌-◌, ◌<◌, ◌≤◌, min, true, cond, eqb, ltb, List, [], ◌∷◌, ◌++◌, map, length, take, drop, sym, refl, ap, ◌∙◌, append_assoc, arith}
 use borrow.Rule.Slice.PartMut.{put_mid}
 use lib.Bits.{bit_xor}
 use Rattle.std.specs.List.{flat_map}
@@ -13,7 +13,7 @@ use Rattle.spoc.specs.declared.mode.Way.TheVariants.{Seal, Open}
 use Rattle.spoc.specs.Feed.{cut, blocks, control, mask_with, mask, ended, run, pick, plains}
 use Rattle.spoc.specs.Suite.{Plan, Sound}
 use Rattle.spoc.specs.Turns.{control_byte, opened_masks, plain_of, masks_of, output_of}
-use Rattle.spoc.proofs.Blocks.{First, first_at, last_at, block_end, blocks_more, flagged_mask, turn, turn_fits, turn_blocks, cipher_turn}
+use Rattle.spoc.proofs.Blocks.{First, blocks_more, flagged_mask, turn, turn_fits, turn_blocks, cipher_turn}
 use Rattle.spoc.proofs.Masks.{length_rated}
 
 module _ (p : Perm) (q : Plan) (laws : Sound p q) where
@@ -90,24 +90,6 @@ module _ (p : Perm) (q : Plan) (laws : Sound p q) where
     way_turn Seal s s' end end' out part at to et ep e' room inv inv' =
         (turn p q laws 64 true rest x t cb k ec s s' end e' inv, cipher_turn p q laws rest x t cb k ec s s' end' out part at to et e' ep room inv')
     way_turn Open s s' end end' out part at to et ep e' room inv inv' = open_turn rest x t cb k ec s s' end end' out part at to et ep e' room inv inv'
-
-  -- a turn of the loop over xs, from `at` to `end`; r, r1 and r2 are the rate
-  pub way_at : (w : Way) (xs : List ℕ) (at end cb r r1 r2 : ℕ) → r ≡ q.rate → r1 ≡ q.rate → r2 ≡ q.rate → at < length xs → end ≡ min (length xs) (at + r1)
-      → cb ≡ control_byte r2 64 (take (end - at) (drop at xs)) (eqb end (length xs))
-      → (s s' to to' out part : List ℕ) → part ≡ xors (take (end - at) (drop at xs)) (pick q.rate_places s)
-      → s' ≡ p.forward (xors s (mask_with p q cb (plain_of w (take (end - at) (drop at xs)) (xors (take (end - at) (drop at xs)) (pick q.rate_places s))))) → at ≤ length out
-      → run p s (masks_of w p q s (drop at xs)) ≡ to
-      → take at out ++ output_of w p q s (drop at xs) ≡ to'
-      → (run p s' (masks_of w p q s' (drop (at + r) xs)) ≡ to) × (take end (put_mid at (end - at) out part) ++ output_of w p q s' (drop (at + r) xs) ≡ to')
-  way_at w xs at end cb r r1 r2 er er1 er2 inside is ec s s' to to' out part ep e' room inv inv' =
-      let x : List ℕ = take (end - at) (drop at xs) in
-      let is' : end ≡ min (length xs) (at + q.rate) = is ∙ ap (λ n. min (length xs) (at + n)) er1 in
-      let ec' = ec ∙ ap₂ (λ n b. control_byte n 64 x b) er2 (last_at q.rate xs at end laws.rate_low inside is') in
-      let done = way_turn (drop at xs) x (drop (at + q.rate) xs) cb (first_at q.rate xs at end laws.rate_low inside is') ec' w s s' to to' out part at end
-      (block_end q.rate xs at end laws.rate_low inside is') ep e' room inv inv' in (
-        ap (λ n. run p s' (masks_of w p q s' (drop (at + n) xs))) er ∙ done.0,
-        ap (λ n. take end (put_mid at (end - at) out part) ++ output_of w p q s' (drop (at + n) xs)) er ∙ done.1,
-      )
 
   pub way_none : (w : Way) (s rest : List ℕ) → length rest ≡ 0 → (run p s (masks_of w p q s rest) ≡ s) × (output_of w p q s rest ≡ [])
   way_none Seal s [] h = (refl, refl)

@@ -8,17 +8,17 @@ const LAYER: u8 = 1;
 #[derive(Clone, Copy, Debug, PartialEq, Eq)]
 pub enum SealFault {
     // The key has not 16 bytes.
-    KeyLength,
+    KeyLength = 1,
     // The nonce has not 16 bytes.
-    NonceLength,
+    NonceLength = 2,
     // Data or message has more than 65,535 bytes.
-    TooLong,
+    TooLong = 3,
     // The output is shorter than the message.
-    OutputShort,
+    OutputShort = 4,
     // The tag, or its buffer, is not as long as the rate.
-    TagLength,
+    TagLength = 5,
     // The tag is not that of the message.
-    TagMismatch,
+    TagMismatch = 6,
 }
 
 impl SealFault {
@@ -26,14 +26,7 @@ impl SealFault {
     pub fn number(&self) -> u8
         ensures { result ≡ fault_number self.now }
     {
-        match self {
-            SealFault::KeyLength => 1,
-            SealFault::NonceLength => 2,
-            SealFault::TooLong => 3,
-            SealFault::OutputShort => 4,
-            SealFault::TagLength => 5,
-            SealFault::TagMismatch => 6,
-        }
+        *self as u8
     }
 
     // The layer that refuses.

@@ -152,11 +152,10 @@ impl<const B: usize, S: Suite<B>> Duplex<B, S> {
     fn absorb_data(&mut self, data: &[u8], ends: bool)
         ensures { self.new.state ≡ run S.Bijection.meaning self.old.state (ended_if ends S.SuiteModel.plan (masks S.Bijection.meaning S.SuiteModel.plan 0x20 «data».now)) }
     {
-        // By the place of each block, whose end tells the last one; chunks do not tell it.
-        for at in (0..data.len()).step_by(S::RATE) {
-            let end = data.len().min(at + S::RATE);
-            let control = control_of(DATA, &data[at..end], S::RATE, ends & (end == data.len()));
-            self.step(&data[at..end], control);
+        for (i, block) in data.chunks(S::RATE).enumerate() {
+            let last = i * S::RATE + block.len() == data.len();
+            let control = control_of(DATA, block, S::RATE, ends & last);
+            self.step(block, control);
         }
     }
 
@@ -229,12 +228,12 @@ impl<const B: usize, S: Suite<B>> Duplex<B, S> {
         ensures state { self.new.state ≡ run S.Bijection.meaning self.old.state (masks_of way S.Bijection.meaning S.SuiteModel.plan self.old.state input.now) }
         ensures out { out.new ≡ output_of way S.Bijection.meaning S.SuiteModel.plan self.old.state input.now ++ drop (length input.now) out.old }
     {
-        // By the place of each block: a proof forgets what is written through chunks_mut.
-        for at in (0..input.len()).step_by(S::RATE) {
-            let end = input.len().min(at + S::RATE);
-            let block = &input[at..end];
+        for (i, block) in input.chunks(S::RATE).enumerate() {
+            // By its place: a proof forgets what is written through chunks_mut in a zip.
+            let start = i * S::RATE;
+            let end = start + block.len();
             let control = control_of(MESSAGE, block, S::RATE, end == input.len());
-            self.crypt_block(way, block, &mut out[at..end], control);
+            self.crypt_block(way, block, &mut out[start..end], control);
         }
     }
 

@@ -8,22 +8,13 @@ pub(crate) struct Halves {
     pub(crate) second: u64,
 }
 
-fn half(bytes: &[u8]) -> u64
-    requires { length bytes.now ≡ 8 }
-    ensures { result ≡ load bytes.now }
-{
-    u64::from_be_bytes([
-        bytes[0], bytes[1], bytes[2], bytes[3], bytes[4], bytes[5], bytes[6], bytes[7],
-    ])
-}
-
 pub(crate) fn in_halves(bytes: &[u8; 16]) -> Halves
     ensures first { result.first ≡ load (take 8 bytes.now) }
     ensures second { result.second ≡ load (drop 8 bytes.now) }
 {
     Halves {
-        first: half(&bytes[0..8]),
-        second: half(&bytes[8..16]),
+        first: u64::from_be_bytes(*bytes.first_chunk::<8>().unwrap()),
+        second: u64::from_be_bytes(*bytes.last_chunk::<8>().unwrap()),
     }
 }
 
@@ -52,6 +43,6 @@ pub(crate) fn xor_word(word: u32, part: &mut [u8])
     requires { length part.old ≡ 4 }
     ensures { part.new ≡ xors part.old (store 4 word) }
 {
-    let x = u32::from_be_bytes([part[0], part[1], part[2], part[3]]) ^ word;
+    let x = u32::from_be_bytes(*part.first_chunk::<4>().unwrap()) ^ word;
     part.copy_from_slice(&x.to_be_bytes());
 }

@@ -25,7 +25,7 @@ pub trait Suite<const B: usize>: Permutation<B> + SuiteModel {
     fn rate_places() -> &'static [usize]
         ensures { result.now ≡ Self.SuiteModel.plan.rate_places };
 
-    // Where a block goes into the state, and where the tag is read.
+    // Where a block goes into the state, and where the tag is read. No constant either.
     fn masked_places() -> &'static [usize]
         ensures { result.now ≡ Self.SuiteModel.plan.masked_places };
 

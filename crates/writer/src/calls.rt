@@ -19,15 +19,15 @@ impl<const B: usize, S: Suite<B> + Drop> Writer<B, S> {
         ensures answer { Starts result medium.new (plain_start (spoc_of S.Bijection.meaning S.SuiteModel.plan) key.now number medium.old) }
         ensures medium { medium.new ≡ start_medium (spoc_of S.Bijection.meaning S.SuiteModel.plan) key.now number medium.old }
     {
-        // By let .. else: a closure that makes the fault would need a clause of its own.
-        let Ok(key) = <[u8; 16]>::try_from(key) else {
-            return Err(CardFault::of_cipher(SealFault::KeyLength));
-        };
+        let key = <[u8; 16]>::try_from(key)
+            .ok()
+            .ok_or(CardFault::of_cipher(SealFault::KeyLength))?;
         if medium.len() < HEADER_BYTES + HEAD_BYTES + S::RATE {
             return Err(CardNo::MediumShort.at(0, 0));
         }
         let header = make_header(S::VERSION, number);
-        medium[..HEADER_BYTES].copy_from_slice(&header);
+        let (front, _) = medium.split_at_mut(HEADER_BYTES);
+        front.copy_from_slice(&header);
         Ok(Writer {
             suite: PhantomData,
             key,

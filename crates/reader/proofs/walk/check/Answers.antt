@@ -7,7 +7,7 @@ use Rattle.cards.specs.Reader.{Card, check_bytes, filled, how_many, place_of}
 use Rattle.cards.proofs.Claims.{reads_as_written, all_writable}
 use Rattle.cards.proofs.Reading.{reads_once}
 use Rattle.reader.specs.Cards.{passes}
-use Rattle.reader.proofs.Checking.{refused_at, filled_at}
+use Rattle.reader.proofs.Checking.{read_of, refused_at, filled_at}
 use Rattle.reader.proofs.Wiping.{wiped_over}
 use Rattle.reader.proofs.walk.check.Given as given
 use Rattle.reader.proofs.walk.check.Goals as goal
@@ -18,23 +18,23 @@ cipher g = spoc g.S.Bijection.meaning g.S.SuiteModel.plan
 laws : (g : given.Over) → Laws (cipher g)
 laws g = spoc_laws g.S.Bijection.meaning g.S.SuiteModel.plan g.met.S.SuiteModel.sound g.S.Bijection.bijective
 
-pub returns-in_default-clause-as_written : goal.returns-in_default-clause-as_written
-returns-in_default-clause-as_written g c = reads_as_written (cipher g) (laws g)
+pub returns-in_err-key-clause-as_written : goal.returns-in_err-key-clause-as_written
+returns-in_err-key-clause-as_written g c = reads_as_written (cipher g) (laws g)
 
-pub returns-in_default-clause-writable : goal.returns-in_default-clause-writable
-returns-in_default-clause-writable g c = all_writable (cipher g) (laws g)
+pub returns-in_err-key-clause-writable : goal.returns-in_err-key-clause-writable
+returns-in_err-key-clause-writable g c = all_writable (cipher g) (laws g)
 
-pub returns-in_default-clause-once : goal.returns-in_default-clause-once
-returns-in_default-clause-once g c = reads_once (cipher g)
+pub returns-in_err-key-clause-once : goal.returns-in_err-key-clause-once
+returns-in_err-key-clause-once g c = reads_once (cipher g)
 
-pub returns-in_default-first_chunk_mut-clause-as_written : goal.returns-in_default-first_chunk_mut-clause-as_written
-returns-in_default-first_chunk_mut-clause-as_written g c = reads_as_written (cipher g) (laws g)
+pub returns-in_err-part-clause-as_written : goal.returns-in_err-part-clause-as_written
+returns-in_err-part-clause-as_written g c = reads_as_written (cipher g) (laws g)
 
-pub returns-in_default-first_chunk_mut-clause-writable : goal.returns-in_default-first_chunk_mut-clause-writable
-returns-in_default-first_chunk_mut-clause-writable g c = all_writable (cipher g) (laws g)
+pub returns-in_err-part-clause-writable : goal.returns-in_err-part-clause-writable
+returns-in_err-part-clause-writable g c = all_writable (cipher g) (laws g)
 
-pub returns-in_default-first_chunk_mut-clause-once : goal.returns-in_default-first_chunk_mut-clause-once
-returns-in_default-first_chunk_mut-clause-once g c = reads_once (cipher g)
+pub returns-in_err-part-clause-once : goal.returns-in_err-part-clause-once
+returns-in_err-part-clause-once g c = reads_once (cipher g)
 
 -- the count of the walk under the key as it was handed in
 counted : (g : given.Over) (k k' bs : List ℕ) (a : Result ℕ Fault) → k' ≡ k → a ≡ how_many 0 (check_bytes (cipher g) k' bs) → a ≡ how_many 0 (check_bytes (cipher g) k bs)
@@ -45,15 +45,15 @@ returns-in_err-count g c =
     let k = c.args.key.now in
     let bs = c.args.bytes.now in
     let s = c.args.scratch.now in
-    let key_is = c.in-Ok.ensures.1 in
+    let key = read_of k c.try_from.result c.in_ok-key.key c.try_from.ensures.1 (sym c.ok.ensures.value ∙ c.in_ok-key.ensures.ok_part) in
     let room : 4096 ≤ length s = search rules in
     let f = of_card c.in_err-count.field-0.0 in
-    let e = refused_at (cipher g) k bs (length s) key_is.long room f (counted g k c.in-Ok.key bs (Err f) key_is.same c.in_err-count.ensures.answer) in
-    let res = err_from_is_err_and c.from_residual.result c.from_residual.ensures.1 in
+    let e = refused_at (cipher g) k bs (length s) key.long room f (counted g k c.in_ok-key.key bs (Err f) key.same c.in_err-count.ensures.answer) in
+    let res = err_from_is_err_and c.from_residual-in_err-count.result c.from_residual-in_err-count.ensures.1 in
     record {
       answer = ap told (res.1 ∙ ap Err res.2) ∙ ap passes (sym e);
       fills = c.empty.ensures ∙ ap filled (sym e);
-      scratch = wiped_over k s _ key_is.long room c.in_err-count.ensures.zero;
+      scratch = wiped_over k s _ key.long room c.in_err-count.ensures.zero;
       as_written = reads_as_written (cipher g) (laws g);
       writable = all_writable (cipher g) (laws g);
       once = reads_once (cipher g);
@@ -67,9 +67,9 @@ invariant_of-card g c =
     let k = c.args.key.now in
     let bs = c.args.bytes.now in
     let s = c.args.scratch.now in
-    let key_is = c.in-Ok.ensures.1 in
+    let key = read_of k c.try_from.result c.in_ok-key.key c.try_from.ensures.1 (sym c.ok.ensures.value ∙ c.in_ok-key.ensures.ok_part) in
     let room : 4096 ≤ length s = search rules in
-    let x = filled_at (cipher g) k bs (length s) key_is.long room c.in_ok-count.count (counted g k c.in-Ok.key bs _ key_is.same c.in_ok-count.ensures.answer) in
+    let x = filled_at (cipher g) k bs (length s) key.long room c.in_ok-count.count (counted g k c.in_ok-key.key bs _ key.same c.in_ok-count.ensures.answer) in
     record {
       runs = λ _. ap (λ r. place_of r bs (suc c.in_ok-count.count)) (c.RATE.ensures ∙ g.met.S.Suite.rate_is) ∙ x.runs;
       none = λ none. absurd (omega (arith, x.long));
@@ -81,13 +81,13 @@ returns g c =
     let k = c.args.key.now in
     let bs = c.args.bytes.now in
     let s = c.args.scratch.now in
-    let key_is = c.in-Ok.ensures.1 in
+    let key = read_of k c.try_from.result c.in_ok-key.key c.try_from.ensures.1 (sym c.ok.ensures.value ∙ c.in_ok-key.ensures.ok_part) in
     let room : 4096 ≤ length s = search rules in
-    let x = filled_at (cipher g) k bs (length s) key_is.long room c.in_ok-count.count (counted g k c.in-Ok.key bs _ key_is.same c.in_ok-count.ensures.answer) in
+    let x = filled_at (cipher g) k bs (length s) key.long room c.in_ok-count.count (counted g k c.in_ok-key.key bs _ key.same c.in_ok-count.ensures.answer) in
     record {
       answer = ap passes (sym x.is);
-      fills = same_card bs key_is.same (c.VERSION.ensures ∙ g.met.S.Suite.version_is) (c.RATE.ensures ∙ g.met.S.Suite.rate_is) (sym x.many) ∙ ap filled (sym x.is);
-      scratch = wiped_over k s _ key_is.long room c.in_ok-count.ensures.zero;
+      fills = same_card bs key.same (c.VERSION.ensures ∙ g.met.S.Suite.version_is) (c.RATE.ensures ∙ g.met.S.Suite.rate_is) (sym x.many) ∙ ap filled (sym x.is);
+      scratch = wiped_over k s _ key.long room c.in_ok-count.ensures.zero;
       as_written = reads_as_written (cipher g) (laws g);
       writable = all_writable (cipher g) (laws g);
       once = reads_once (cipher g);

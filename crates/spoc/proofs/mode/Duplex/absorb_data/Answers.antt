@@ -1,22 +1,21 @@
-use Rattle.std.proofs.Common.{◌+◌, drop, sym, ◌∙◌, arith, length-drop}
-use Rattle.spoc.proofs.Blocks.{turn_at, run_none}
+use Rattle.std.proofs.Common.{length, ◌∙◌, rules}
+use Rattle.spoc.proofs.Blocks.{first_chunk, next_left, control_is, turn}
 use Rattle.spoc.proofs.mode.Duplex.absorb_data.Goals as goal
 
-pub loop-at-preserved : goal.loop-at-preserved
-loop-at-preserved g c =
-    let is = g.met.S.Suite.rate_is in
-    turn_at g.S.Bijection.meaning g.S.SuiteModel.plan g.met.S.SuiteModel.sound 32 c.args.ends c.args.data.now c.loop-at.at c.min-end.result c.control_of-control.result _ _ _
-    (c.RATE-at-step.ensures ∙ is) (c.RATE.ensures ∙ is) (c.RATE-in-loop-at.ensures ∙ is) (omega arith) c.min-end.ensures c.control_of-control.ensures
-    c.loop-at.self.state c.step.new.self.state _ c.step.ensures c.loop-at.invariant
-
-pub returns-2 : goal.returns-2
-returns-2 g c =
-    let is = g.met.S.Suite.rate_is in
-    let p = g.S.Bijection.meaning in
+pub loop-i-preserved : goal.loop-i-preserved
+loop-i-preserved g c =
     let q = g.S.SuiteModel.plan in
-    let k = g.met.S.SuiteModel.sound in
-    let ds = c.args.data.now in
-    sym (run_none p q k c.step.new.self.state c.args.ends 32 (drop (c.loop-at.at + c.RATE-at-step.result) ds) (omega (arith, length-drop (c.loop-at.at + c.RATE-at-step.result) ds)))
-    ∙ turn_at p q k 32 c.args.ends ds c.loop-at.at c.min-end.result c.control_of-control.result _ _ _
-    (c.RATE-at-step.ensures ∙ is) (c.RATE.ensures ∙ is) (c.RATE-in-loop-at.ensures ∙ is) (omega arith) c.min-end.ensures c.control_of-control.ensures
-    c.loop-at.self.state c.step.new.self.state _ c.step.ensures c.loop-at.invariant
+    let is = g.met.S.Suite.rate_is in
+    let inv = c.loop-i.invariant in
+    let step = c.in-Some.ensures.steps in
+    let x = c.in-Some.block.now in
+    let n = length c.args.data.now in
+    let i = c.loop-i.i-iterator.count in
+    let first = first_chunk q.rate _ _ x _ inv.2 step.0.1 in
+    let byte = control_is q.rate n i _ x _ first inv.3 32 c.args.ends _ _ _ (c.RATE-in-loop-i.ensures ∙ is) (c.RATE-in-loop-i-2.ensures ∙ is) (rw step.1 at c.control_of-control.ensures) in (
+      search rules,
+      search rules,
+      step.0.0 ∙ inv.2,
+      rw step.2 (next_left q.rate n i _ x _ first inv.3),
+      turn g.S.Bijection.meaning q g.met.S.SuiteModel.sound 32 c.args.ends _ x _ _ first byte _ _ _ c.step.ensures inv.4,
+    )

@@ -1,16 +1,20 @@
-use Rattle.std.proofs.Common.{◌≡◌, ◌≤◌, ◌++◌, length, take, drop}
+use Rattle.std.proofs.Common.{◌≡◌, ◌-◌, ◌*◌, ◌++◌, length, take, drop}
+use Rattle.std.specs.Slice.Iter.{chunks_rest, chunks_size}
 use Rattle.spoc.specs.Feed.{run}
 use Rattle.spoc.specs.Turns.{masks_of, output_of}
 use Rattle.spoc.proofs.mode.Duplex.crypt.Given as goal
 
-abbrev pub invariant-loop-at : goal.invariant-loop-at
-invariant-loop-at g l =
+abbrev pub invariant-loop-i : goal.invariant-loop-i
+invariant-loop-i g l =
     let p = g.S.Bijection.meaning in
     let q = g.S.SuiteModel.plan in
     let s = l.self.state in
     let s0 = l.initial.self.state in
-    let rest = drop l.at l.input in
-    (l.at ≤ length l.input)
+    let rest = chunks_rest l.i-iterator.iter in
+    (goal.iterator-loop-i g).can_next l.i-iterator
+    × (goal.iterator-loop-i g).is_finite l.i-iterator
+    × (chunks_size l.i-iterator.iter ≡ q.rate)
+    × (length rest ≡ length l.input - l.i-iterator.count * q.rate)
     × (run p s (masks_of l.way p q s rest) ≡ run p s0 (masks_of l.way p q s0 l.input))
-    × (take l.at l.out ++ output_of l.way p q s rest ≡ output_of l.way p q s0 l.input)
+    × (take (length l.input - length rest) l.out ++ output_of l.way p q s rest ≡ output_of l.way p q s0 l.input)
     × (drop (length l.input) l.out ≡ drop (length l.input) l.initial.out)

@@ -2,7 +2,8 @@ use Rattle.std.proofs.Common.{◌≡◌, length, sym, arith, rules}
 use Rattle.std.proofs.lemmas.List.{length_push}
 use Rattle.std.proofs.lemmas.Slice.Zip.{zip_turn}
 use Rattle.spoc.specs.Rows.{xors_zeros}
-use Rattle.spoc.proofs.Masks.{masked_turn, absorb_more}
+use Rattle.spoc.proofs.Masks.{absorb_more}
+use Rattle.spoc.proofs.Zips.{zip_inside}
 use Rattle.spoc.proofs.mode.Duplex.mask_in.Goals as goal
 
 pub loop-place-init : goal.loop-place-init
@@ -13,15 +14,11 @@ loop-place-init g c =
 
 pub bounds-self-place : goal.bounds-self-place
 bounds-self-place g c =
-    let xs = c.loop-place.yielded in
-    let t = zip_turn g.S.SuiteModel.plan.masked_places c.args.bytes.now xs _ _ c.next.new.self _ (search rules) (search rules) c.loop-place.yielded_by (c.in-Some.place, c.in-Some.byte) c.in-Some.is c.next.ensures.steps in
-    masked_turn g.S.Bijection.meaning g.S.SuiteModel.plan g.met.S.SuiteModel.sound (length xs) c.in-Some.place.now g.row.B t.0 (t.2 0) g.met.S.Suite.wide
+    zip_inside g.S.Bijection.meaning g.S.SuiteModel.plan g.met.S.SuiteModel.sound c.args.bytes.now g.row.B g.met.S.Suite.wide c.loop-place.yielded _ _ c.next.new.self _ (search rules) (search rules) c.loop-place.yielded_by (c.in-Some.place, c.in-Some.byte) c.in-Some.is c.next.ensures.steps
 
 pub bounds-self-place-in-loop-place : goal.bounds-self-place-in-loop-place
 bounds-self-place-in-loop-place g c =
-    let xs = c.loop-place.yielded in
-    let t = zip_turn g.S.SuiteModel.plan.masked_places c.args.bytes.now xs _ _ c.next.new.self _ (search rules) (search rules) c.loop-place.yielded_by (c.in-Some.place, c.in-Some.byte) c.in-Some.is c.next.ensures.steps in
-    masked_turn g.S.Bijection.meaning g.S.SuiteModel.plan g.met.S.SuiteModel.sound (length xs) c.in-Some.place.now g.row.B t.0 (t.2 0) g.met.S.Suite.wide
+    zip_inside g.S.Bijection.meaning g.S.SuiteModel.plan g.met.S.SuiteModel.sound c.args.bytes.now g.row.B g.met.S.Suite.wide c.loop-place.yielded _ _ c.next.new.self _ (search rules) (search rules) c.loop-place.yielded_by (c.in-Some.place, c.in-Some.byte) c.in-Some.is c.next.ensures.steps
 
 pub loop-place-preserved : goal.loop-place-preserved
 loop-place-preserved g c =

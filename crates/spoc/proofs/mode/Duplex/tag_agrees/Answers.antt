@@ -2,14 +2,12 @@ use Rattle.std.proofs.Common.{length, arith, rules}
 use Rattle.std.proofs.lemmas.Slice.Zip.{zip_turn, zip_end}
 use Rattle.std.proofs.lemmas.List.{length_push}
 use Rattle.spoc.proofs.Compare.{seen_more, seen_all}
-use Rattle.spoc.proofs.Masks.{masked_turn}
+use Rattle.spoc.proofs.Zips.{zip_inside}
 use Rattle.spoc.proofs.mode.Duplex.tag_agrees.Goals as goal
 
 pub bounds-self-place : goal.bounds-self-place
 bounds-self-place g c =
-    let xs = c.loop-place.yielded in
-    let t = zip_turn g.S.SuiteModel.plan.masked_places c.args.tag.now xs _ _ c.next.new.self _ (search rules) (search rules) c.loop-place.yielded_by (c.in-Some.place, c.in-Some.byte) c.in-Some.is c.next.ensures.steps in
-    masked_turn g.S.Bijection.meaning g.S.SuiteModel.plan g.met.S.SuiteModel.sound (length xs) c.in-Some.place.now g.row.B t.0 (t.2 0) g.met.S.Suite.wide
+    zip_inside g.S.Bijection.meaning g.S.SuiteModel.plan g.met.S.SuiteModel.sound c.args.tag.now g.row.B g.met.S.Suite.wide c.loop-place.yielded _ _ c.next.new.self _ (search rules) (search rules) c.loop-place.yielded_by (c.in-Some.place, c.in-Some.byte) c.in-Some.is c.next.ensures.steps
 
 pub loop-place-preserved : goal.loop-place-preserved
 loop-place-preserved g c =
