@@ -35,16 +35,6 @@ fn padded_block(block: &[u8]) -> [u8; 16]
     bytes
 }
 
-// A full block in a copy: the compiler then knows its length, and that masking does not change it.
-fn full_block(block: &[u8], rate: usize) -> [u8; 16]
-    requires { (length block.now ≡ rate) × (rate ≤ 16) }
-    ensures { take rate result ≡ block.now }
-{
-    let mut bytes = [0; 16];
-    bytes[..rate].copy_from_slice(&block[..rate]);
-    bytes
-}
-
 // The control byte of a block, full or short, of which `last` says whether it is the last of the feed.
 fn control_of(base: u8, block: &[u8], rate: usize, last: bool) -> u8
     requires { base < 128 }
@@ -108,7 +98,8 @@ impl<const B: usize, S: Suite<B>> Duplex<B, S> {
         if block.len() < S::RATE {
             self.mask_in(&padded_block(block)[..S::RATE]);
         } else {
-            self.mask_in(&full_block(block, S::RATE)[..S::RATE]);
+            // Of a part cut to RATE the compiler knows the length: without, bench is a tenth slower.
+            self.mask_in(&block[..S::RATE]);
         }
     }
 
