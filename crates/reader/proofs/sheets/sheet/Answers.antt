@@ -42,9 +42,6 @@ refused_is g c =
     ∙ ap (λ xs. headed (sheet_at S card.key h c.args.i (place card c.args.i) xs o)) c.rest_at.ensures.bytes
     ∙ ap headed (sym (answer_passes S (shown card) c.args.i hv hr (omega arith) o))
 
-pub returns-in_err-open_sheet-clause-answer : goal.returns-in_err-open_sheet-clause-answer
-returns-in_err-open_sheet-clause-answer g c = refused_is g (goal.at.returns-in_err-open_sheet-clause-answer g c).After-from_residual
-
 pub returns-in_err-open_sheet-clause-agrees : goal.returns-in_err-open_sheet-clause-agrees
 returns-in_err-open_sheet-clause-agrees g c =
     no_mismatch (cipher g) (shown c.args.card.now) c.args.i (length c.args.buffer.now) (told c.from_residual.result) (refused_is g (goal.at.returns-in_err-open_sheet-clause-agrees g c).After-from_residual)
