@@ -4,11 +4,11 @@ use Rattle.std.proofs.lemmas.Bool.Decides.{nat_tests}
 use Rattle.spoc.specs.Sealing.{Sealing, Laws}
 use Rattle.cards.specs.Faults.{Fault, fault, and_then}
 use Rattle.cards.specs.Format.{Sheet, a_sheet, nonce}
-use Rattle.cards.specs.Reader.{Card, check, unseal, place_of, sheet_answer, sheet_at, sheet_buffer, cell_of, edition_of, length_of, head_of, body_of, tag_of}
+use Rattle.cards.specs.Reader.{Card, check, unseal, place_of, sheet_answer, sheet_at, cell_of, edition_of, length_of, head_of, body_of, tag_of}
 use Rattle.cards.proofs.Parsing.{body_length}
 use Rattle.cards.proofs.Places.{opening, never_six}
 use Rattle.reader.specs.Heads.{a_head, fields, headed, NoMismatch}
-use Rattle.reader.specs.Said.{open_answer, open_output}
+use Rattle.reader.specs.Said.{open_answer}
 use Rattle.reader.specs.declared.rest.SheetHead.{SheetHead}
 use Rattle.reader.proofs.Opening.{opened_length}
 
@@ -35,9 +35,6 @@ module _ (S : Sealing) (c : Card) (i : ℕ) (hv : c.version ≡ S.version) (hr :
 
   pub answer_passes : (o : ℕ) → sheet_answer S c i o ≡ sheet_at S c.key (take 13 c.bytes) i at (drop at c.bytes) o
   answer_passes o = let t0 = tests.0 in let t1 = tests.1 in let t2 = tests.2 in rw (t0, t1, t2) refl
-
-  pub buffer_passes : (o : List ℕ) → sheet_buffer S c i o ≡ open_output (opening S c.key (take 13 c.bytes) i (drop at c.bytes)) (length_of (drop at c.bytes)) o
-  buffer_passes o = let t0 = tests.0 in let t1 = tests.1 in let t2 = tests.2 in rw (t0, t1, t2) refl
 
 headed_refused : (a : Result Sheet Fault) (f : Fault) → headed a ≡ Err f → a ≡ Err f
 headed_refused (Ok s) f e = absurd (let z : ◌≡◌ {A = ℕ} 0 1 = cc in omega arith)

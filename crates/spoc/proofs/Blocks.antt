@@ -136,12 +136,6 @@ module _ (p : Perm) (q : Plan) (laws : Sound p q) where
         ∙ sym (ap (λ bs. run p s (ended_if e q (map (mask p q c) bs))) turn_blocks ∙ ap (run p s) (ended_first e c x t))
         ∙ inv
 
-  pub run_none : (s : List ℕ) (e : Bool) (c : ℕ) (rest : List ℕ) → length rest ≡ 0 → run p s (ended_if e q (masks p q c rest)) ≡ s
-  run_none s true c [] h = refl
-  run_none s false c [] h = refl
-  run_none s true c (a ∷ rest) h = absurd (omega arith)
-  run_none s false c (a ∷ rest) h = absurd (omega arith)
-
   -- a turn of the loop over a message: `at` bytes of out are written, and the next, up to `to`, are x's ciphertext
   module _ (rest x t : List ℕ) (cb : ℕ) (k : First q.rate rest x t) (ec : cb ≡ control_byte q.rate 64 x (eqb (length t) 0)) where
     pub cipher_turn : (s s' end out part : List ℕ) (at to : ℕ) → to ≡ at + length x → s' ≡ p.forward (xors s (mask_with p q cb x))
@@ -163,10 +157,3 @@ module _ (p : Perm) (q : Plan) (laws : Sound p q) where
         ∙ ap (λ z. take at out ++ (xors x key ++ tail z)) (e' ∙ ap (λ n. p.forward (xors s (mask_with p q n x))) ec)
         ∙ ap (λ z. take at out ++ z) (sym more)
         ∙ inv
-
--- nothing is left of a loop that fills the first n bytes of out, and `was` has what follows
-pub filled : (end rest out was : List ℕ) (at n : ℕ) → at ≡ n → take at out ++ rest ≡ end → rest ≡ [] → drop n out ≡ drop n was → out ≡ end ++ drop n was
-filled end rest out was at n e inv none kept =
-    sym (take-append-drop n out)
-    ∙ ap (λ z. take n out ++ z) kept
-    ∙ ap (λ z. z ++ drop n was) (ap (λ m. take m out) (sym e) ∙ sym (append-nil (take at out)) ∙ ap (λ z. take at out ++ z) (sym none) ∙ inv)

@@ -1,5 +1,5 @@
 -- The differences of two rows of bytes, gathered by or, are 0 exactly when the rows are equal. Assumes nothing.
-use Rattle.std.proofs.Common.{◌≡◌, ℕ, ◌+◌, ◌<◌, Bool, true, false, eqb, List, length, get_or, sym, refl, ap, ◌∙◌, ap₂, ⊎_elim, arith, below_more}
+use Rattle.std.proofs.Common.{◌≡◌, ℕ, ◌+◌, ◌<◌, Bool, true, false, eqb, List, length, get_or, sym, ap, ◌∙◌, ap₂, ⊎_elim, arith, below_more}
 use lib.Bits.{bit_or, bit_xor, or_add_and, and_le_l, and_le_r, xor_self}
 use Rattle.std.specs.Str.{bytes_eq}
 use Rattle.std.proofs.lemmas.Slice.Eq.{bytes_eq-Decides}
@@ -19,9 +19,6 @@ xor_none a b e = sym (xor_off a b) ∙ ap (λ z. bit_xor z b) e
 pub record Seen (d : ℕ) (ps s t : List ℕ) (i : ℕ) : Type 0 where
   pub equal : d ≡ 0 → (k : ℕ) → k < i → get_or t k 0 ≡ get_or s (get_or ps k 0) 0
   pub none : ((k : ℕ) → k < i → get_or t k 0 ≡ get_or s (get_or ps k 0) 0) → d ≡ 0
-
-pub seen_none : (ps s t : List ℕ) → Seen 0 ps s t 0
-seen_none ps s t = record { equal = λ e k h. absurd (omega arith); none = λ h. refl }
 
 -- the place and the byte of index i, o and b, are next
 pub seen_more : (d : ℕ) (ps s t : List ℕ) (i o b n : ℕ) → o ≡ get_or ps i 0 → b ≡ get_or t i 0 → n ≡ i + 1 → Seen d ps s t i → Seen (bit_or d (bit_xor (get_or s o 0) b)) ps s t n

@@ -1,7 +1,7 @@
 -- What the suite rule says of the places, and one more byte of a mask. Assumes nothing.
 use Rattle.std.proofs.Common.{◌≡◌, ℕ, zero, suc, ◌+◌, ◌<◌, ◌≤◌, Bool, true, false, cond, ◌≢◌, List, [], ◌∷◌, ◌++◌, length, get_or, take, drop, set, replicate, sym, refl, ap, ◌∙◌, le_of_suc-le-suc, arith}
 use lib.Bits.{bit_xor}
-use Rattle.std.proofs.lemmas.List.{length-append, length-take-le, length-replicate, take_more, get_or-take, get_or_append_left, get_or-append-add, take_all, take_at, take-take, set-get_or}
+use Rattle.std.proofs.lemmas.List.{length-append, length-take-le, length-replicate, take_more, get_or-take, get_or_append_left, get_or-append-add, take_at, take-take, set-get_or}
 use Rattle.permutations.specs.Bytes.{xors}
 use Rattle.permutations.specs.Permutation.{Perm}
 use Rattle.spoc.specs.Feed.{put, pick, zero_mask, padded, mask_with, control_place}
@@ -110,10 +110,6 @@ module _ (p : Perm) (q : Plan) (laws : Sound p q) where
 
   pub length_padded : (x : List ℕ) → length (padded q.rate x) ≡ q.rate
   length_padded x = length-take-le q.rate (x ++ 128 ∷ replicate q.rate 0) (simp (length-append, length-replicate) (omega arith))
-
-  -- all bytes are in
-  pub absorb_all : (s vs : List ℕ) (i : ℕ) → length vs ≡ q.rate → q.rate ≤ i → xors s (so_far vs i) ≡ xors s (put q.masked_places vs (zero_mask p))
-  absorb_all s vs i wide h = rw (take_all i q.masked_places (omega (arith, laws.masked_count)), take_all i vs (omega arith)) refl
 
   -- the control byte follows
   pub absorb_control : (s x t : List ℕ) (c : ℕ) → t ≡ xors s (put q.masked_places (padded q.rate x) (zero_mask p))

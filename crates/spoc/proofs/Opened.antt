@@ -91,12 +91,6 @@ module _ (p : Perm) (q : Plan) (laws : Sound p q) where
         (turn p q laws 64 true rest x t cb k ec s s' end e' inv, cipher_turn p q laws rest x t cb k ec s s' end' out part at to et e' ep room inv')
     way_turn Open s s' end end' out part at to et ep e' room inv inv' = open_turn rest x t cb k ec s s' end end' out part at to et ep e' room inv inv'
 
-  pub way_none : (w : Way) (s rest : List ℕ) → length rest ≡ 0 → (run p s (masks_of w p q s rest) ≡ s) × (output_of w p q s rest ≡ [])
-  way_none Seal s [] h = (refl, refl)
-  way_none Open s [] h = (refl, refl)
-  way_none Seal s (a ∷ rest) h = absurd (omega arith)
-  way_none Open s (a ∷ rest) h = absurd (omega arith)
-
   -- ---- the message blocks of a ciphertext
 
   pub length_plains : (n : ℕ) (s c : List ℕ) → length c ≤ n → length (flat_map (λ x. x) (plains p q s (cut q.rate n c))) ≡ length c
