@@ -1,6 +1,8 @@
 use crate::clock::least_time;
 use anyhow::{Context, ensure};
-use cards::{HEAD_BYTES, HEADER_BYTES, MOST_BODY, MOST_SHEETS, record_data, record_nonce};
+use cards::{
+    CardFault, HEAD_BYTES, HEADER_BYTES, MOST_BODY, MOST_SHEETS, record_data, record_nonce,
+};
 use permutations::Bench;
 use reader::{Card, check};
 use spoc::{Spoc64, Spoc128, Suite, open};
@@ -11,26 +13,24 @@ const KEY: [u8; 16] = [7; 16];
 // Writes a card of as many sheets as there may be, each as long as it may be.
 fn write_full<const B: usize, S: Suite<B> + Drop>(medium: &mut [u8]) -> anyhow::Result<()> {
     let body = [5; MOST_BODY];
-    let mut writer = Writer::<B, S>::start(&KEY, 4, medium)
-        .ok()
-        .context("start was refused")?;
+    let mut writer = Writer::<B, S>::start(&KEY, 4, medium).context("start was refused")?;
     // Each sheet has its number as its cell.
     for cell in 0..MOST_SHEETS {
         writer
             .append(medium, cell as u32, 1, &body)
-            .ok()
             .context("append was refused")?;
     }
-    writer.close(medium).ok().context("close was refused")?;
+    writer
+        .close(medium)
+        .map_err(CardFault::from)
+        .context("close was refused")?;
     Ok(())
 }
 
 // Checks a full card.
 fn check_card<const B: usize, S: Suite<B>>(bytes: &[u8], scratch: &mut [u8]) -> anyhow::Result<()> {
     let mut card = Card::empty();
-    check::<B, S>(&KEY, bytes, scratch, &mut card)
-        .ok()
-        .context("the card was refused")?;
+    check::<B, S>(&KEY, bytes, scratch, &mut card).context("the card was refused")?;
     ensure!(card.count() == MOST_SHEETS, "the card was refused");
     Ok(())
 }
@@ -41,22 +41,26 @@ fn open_record<const B: usize, S: Suite<B>>(
     n: usize,
     record: &[u8],
     out: &mut [u8],
-) -> Option<()> {
-    let (head, rest) = record.split_first_chunk::<9>()?;
-    let (body, tag) = rest.split_at_checked(MOST_BODY)?;
+) -> anyhow::Result<()> {
+    let (head, rest) = record.split_first_chunk::<9>().context("a head cut")?;
+    let (body, tag) = rest.split_at_checked(MOST_BODY).context("a body cut")?;
     let nonce = record_nonce(header, n as u64);
     let data = record_data(header, head);
-    open::<B, S>(&KEY, &nonce, &data, body, out, tag).ok()
+    // As a card's fault, which prints: the cipher's own is no Error.
+    open::<B, S>(&KEY, &nonce, &data, body, out, tag).map_err(CardFault::of_cipher)?;
+    Ok(())
 }
 
 // Opens the bodies of a full card one after the other.
-fn open_bodies<const B: usize, S: Suite<B>>(bytes: &[u8], out: &mut [u8]) -> Option<()> {
-    let (header, records) = bytes.split_first_chunk::<HEADER_BYTES>()?;
+fn open_bodies<const B: usize, S: Suite<B>>(bytes: &[u8], out: &mut [u8]) -> anyhow::Result<()> {
+    let (header, records) = bytes
+        .split_first_chunk::<HEADER_BYTES>()
+        .context("a header cut")?;
     let size = HEAD_BYTES + MOST_BODY + S::RATE;
     for (n, record) in records.chunks(size).take(MOST_SHEETS).enumerate() {
         open_record::<B, S>(header, n, record, out)?;
     }
-    Some(())
+    Ok(())
 }
 
 // Times check of a full card, and opening all its bodies.

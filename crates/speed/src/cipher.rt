@@ -1,6 +1,7 @@
 use crate::clock::{each, least_time};
 use crate::walks;
 use anyhow::Context;
+use cards::CardFault;
 use permutations::Bench;
 use spoc::{Spoc64, Spoc128, Suite, open, seal};
 
@@ -28,14 +29,15 @@ fn time_length<const B: usize, S: Suite<B>>(
     let mut room = [0; 16];
     let tag = room.get_mut(0..S::RATE).context("a rate above 16")?;
     let calls = (BYTES / length.max(1)).min(100_000) as u32;
+    // A refusal goes as a card's fault, which prints: the cipher's own is no Error.
     let sealing = least_time(rt, calls, || {
         seal::<B, S>(&KEY, &NONCE, &[], message, ciphertext, tag)
-            .ok()
+            .map_err(CardFault::of_cipher)
             .context("the cipher refused")
     })?;
     let opening = least_time(rt, calls, || {
         open::<B, S>(&KEY, &NONCE, &[], ciphertext, message, tag)
-            .ok()
+            .map_err(CardFault::of_cipher)
             .context("the cipher refused")
     })?;
     let sealing = each(sealing, calls);
