@@ -1,4 +1,5 @@
 mod Back
+mod Naming
 mod Pairing
 mod Printing
 mod Splitting

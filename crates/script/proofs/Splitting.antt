@@ -5,9 +5,11 @@ use Rattle.std.proofs.lemmas.List.{take_rest}
 use Rattle.std.proofs.lemmas.List.Quantifiers.{position-Some}
 use Rattle.std.proofs.lemmas.List.Splits.{slice_split_first, slice_split_none, length-slice_split}
 use Rattle.std.proofs.lemmas.List.Sums.{position_or_len_is, fails_before_first}
+use Rattle.std.specs.Borrow.{Bor}
 use Rattle.std.specs.List.{position, position_or_len}
 use Rattle.script.specs.declared.unread.Unread.TheVariants.{TooManyWords}
-use Rattle.script.specs.Words.{words, ending}
+use Rattle.script.specs.Words.{words, left, ending}
+use Rattle.script.specs.declared.words.Words.{Words}
 
 abbrev space : ℕ → Bool
 space b = nat_eq b 32
@@ -30,5 +32,5 @@ some_left [] some = absurd (omega arith)
 some_left (w ∷ ws) some = refl
 
 -- there is always a word left
-pub not_ending : (line : List ℕ) → ending (words line) ≡ Err TooManyWords
-not_ending line = some_left (words line) (omega (arith, length-slice_split space line))
+pub not_ending : (w : Words) (r : Bor (List ℕ)) → w.rest ≡ Some r → ending (left w) ≡ Err TooManyWords
+not_ending w r e = rw e (some_left (words r.now) (omega (arith, length-slice_split space r.now)))

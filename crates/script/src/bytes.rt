@@ -23,6 +23,7 @@ fn read_pair(high: u8, low: u8) -> Result<u8, Unread>
 }
 
 // The bytes of pairs of digits.
+#[tactic(auto, using(crate::proofs::Pairing::pair_more))]
 fn read_pairs(heap: Global, digits: &[u8]) -> Result<Vec<u8>, Unread>
     ensures { Holds vec_items result (pairs digits.now) }
 {
@@ -56,6 +57,7 @@ pub struct Hex<'a>(pub &'a [u8]);
 impl fmt::Display for Hex<'_> {
     ghost output = { λ h. Some (hex_text h.0.now) };
 
+    #[tactic(auto, using(crate::proofs::Printing::printed_more))]
     fn fmt<W: fmt::Write>(&self, f: &mut fmt::Formatter<W>) -> fmt::Result {
         if self.0.is_empty() {
             return f.write_str("-");

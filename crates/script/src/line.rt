@@ -2,6 +2,7 @@ ghost use Rattle.std.specs.Prelude.{◌≡◌};
 ghost use Rattle.script.specs.Lines.{silent, trimmed};
 
 // A line without one carriage return at its end.
+#[tactic(auto, using(crate::proofs::Trimming::trimmed_rest))]
 pub fn without_return(line: &[u8]) -> &[u8]
     ensures { result.now ≡ trimmed line.now }
 {

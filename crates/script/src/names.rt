@@ -33,6 +33,7 @@ impl TryFrom<&[u8]> for CallName {
 
     ghost try_from_gives = { λ word r. r ≡ call_named word.now };
 
+    #[tactic(auto, using(crate::proofs::Naming::by_bytes))]
     fn try_from(word: &[u8]) -> Result<CallName, Unread> {
         match word {
             b"forward" => Ok(CallName::Permutation(PermutationCall::Forward)),
@@ -72,6 +73,7 @@ impl TryFrom<&[u8]> for PermutationName {
 
     ghost try_from_gives = { λ word r. r ≡ permutation_named word.now };
 
+    #[tactic(auto, using(crate::proofs::Naming::by_bytes))]
     fn try_from(word: &[u8]) -> Result<PermutationName, Unread> {
         match word {
             b"192" => Ok(PermutationName::Light192),

@@ -12,6 +12,7 @@ fn first_space(line: &[u8]) -> Option<usize>
 }
 
 // The first word of a line, and what follows the space after it.
+#[tactic(auto, using(crate::proofs::Splitting::split_there, crate::proofs::Splitting::split_nowhere))]
 fn split_word(line: &[u8]) -> (&[u8], Option<&[u8]>)
     ensures { words line.now ≡ result.0.now ∷ words_in (option_map (λ x. x.now) result.1) }
 {
@@ -48,6 +49,7 @@ impl<'a> Words<'a> {
     }
 
     // Whether every word has been read. Here None is the good answer, which no ok_or gives.
+    #[tactic(auto, using(crate::proofs::Splitting::not_ending))]
     pub fn finish(&self) -> Result<(), Unread>
         ensures { result ≡ ending (left self.now) }
     {
