@@ -1,13 +1,13 @@
 -- The lines of sheets, one after the other.
 use Rattle.std.proofs.Common.{◌≡◌, ℕ, suc, ◌+◌, ◌<◌, List, [], ◌∷◌, ◌++◌, length, get_or, take, sym, refl, ap, ◌∙◌, arith}
 use Rattle.std.proofs.lemmas.List.{append_assoc, append-nil, length-take-le, take_more}
-use Rattle.cards.specs.Format.{Sheet}
+use Rattle.cards.specs.Format.{Sheet, a_sheet}
 use Rattle.lister.specs.Printed.{sheet_line, sheet_lines}
 
 abbrev line : ℕ → Sheet → List ℕ
 line i s = sheet_line i s.cell s.edition (length s.body)
 
-pub lines_none : (i : ℕ) → sheet_lines i [] ≡ []
+lines_none : (i : ℕ) → sheet_lines i [] ≡ []
 unfolding sheet_lines
 lines_none i = refl
 
@@ -23,11 +23,24 @@ lines_append i (s ∷ xs) ys =
     ap (λ (z : List ℕ). line i s ++ z) (lines_append (suc i) xs ys ∙ ap (λ k. sheet_lines (suc i) xs ++ sheet_lines k ys) e)
     ∙ sym (append_assoc (line i s) (sheet_lines (suc i) xs) (sheet_lines (i + suc (length xs)) ys))
 
+-- a default, which is not read
+abbrev pub nothing : Sheet
+nothing = a_sheet 0 0 []
+
 -- one sheet more
-pub lines_more : (xs : List Sheet) (i : ℕ) (d : Sheet) → i < length xs → sheet_lines 0 (take (i + 1) xs) ≡ sheet_lines 0 (take i xs) ++ line i (get_or xs i d)
-lines_more xs i d lt =
+lines_more : (xs : List Sheet) (i : ℕ) → i < length xs → sheet_lines 0 (take (i + 1) xs) ≡ sheet_lines 0 (take i xs) ++ line i (get_or xs i nothing)
+lines_more xs i lt =
+    let d = nothing in
     let e : 0 + length (take i xs) ≡ i = ap (λ k. 0 + k) (length-take-le i xs (omega arith)) ∙ omega arith in
     ap (sheet_lines 0) (take_more xs i d lt)
     ∙ lines_append 0 (take i xs) (get_or xs i d ∷ [])
     ∙ ap (λ k. sheet_lines 0 (take i xs) ++ sheet_lines k (get_or xs i d ∷ [])) e
     ∙ ap (λ (z : List ℕ). sheet_lines 0 (take i xs) ++ z) (one i (get_or xs i d))
+
+-- no sheet yet, after a text
+pub text_none : (t : List ℕ) → t ++ sheet_lines 0 [] ≡ t
+text_none t = ap (λ (l : List ℕ). t ++ l) (lines_none 0) ∙ append-nil t
+
+-- one sheet more, after a text
+pub text_more : (t : List ℕ) (xs : List Sheet) (i : ℕ) → i < length xs → t ++ sheet_lines 0 (take (i + 1) xs) ≡ (t ++ sheet_lines 0 (take i xs)) ++ line i (get_or xs i nothing)
+text_more t xs i lt = ap (λ (l : List ℕ). t ++ l) (lines_more xs i lt) ∙ sym (append_assoc t (sheet_lines 0 (take i xs)) _)

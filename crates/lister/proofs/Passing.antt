@@ -1,5 +1,5 @@
 -- A card that check passes, and its lines.
-use Rattle.std.proofs.Common.{◌≡◌, ℕ, ◌<◌, ◌≤◌, true, eqb, leb, List, ◌++◌, length, get_or, Ok, Err, Result, sym, refl, ap, ◌∙◌, arith}
+use Rattle.std.proofs.Common.{◌≡◌, ℕ, ◌<◌, true, eqb, List, ◌++◌, length, get_or, Ok, Err, Result, sym, refl, ap, ◌∙◌, arith, le_refl}
 use Rattle.std.proofs.ByRecursion.{All-get_or}
 use Rattle.std.proofs.lemmas.Bool.Decides.{nat_tests}
 use Rattle.spoc.specs.Sealing.{Sealing, Laws, Octets}
@@ -10,22 +10,20 @@ use Rattle.cards.proofs.Reading.{from_bytes, passed_reads}
 use Rattle.cards.proofs.Records.{Fit}
 use Rattle.reader.specs.Cards.{passes}
 use Rattle.reader.specs.Heads.{headed}
-use Rattle.reader.specs.declared.SheetHead.{SheetHead}
-use Rattle.lister.specs.Printed.{sheet_line, sheet_lines, card_line, listed, Holds}
+use Rattle.lister.proofs.Lines.{nothing}
+use Rattle.lister.specs.Printed.{sheet_lines, card_line, listed, Holds}
 
--- a scratch of n bytes
-module _ (S : Sealing) (key bs : List ℕ) (n : ℕ) (hk : length key ≡ 16) (hn : 4096 ≤ n) where
-  goes_on : check S key n bs ≡ and_then (check_bytes S key bs) (λ xs. Ok (checked S key bs xs))
+module _ (S : Sealing) (key bs : List ℕ) (hk : length key ≡ 16) where
+  goes_on : check S key 4096 bs ≡ and_then (check_bytes S key bs) (λ xs. Ok (checked S key bs xs))
   goes_on =
       let t : eqb (length key) 16 ≡ true = grind (arith, nat_tests) in
-      let u : leb 4096 n ≡ true = grind (arith, nat_tests) in
-      rw (t, u) refl
+      rw t refl
 
   refusal : (o : Result (List Sheet) Fault) (f : Fault) → Err f ≡ passes (and_then o (λ xs. Ok (checked S key bs xs))) → o ≡ Err f
   refusal (Ok xs) f e = absurd (let z : ◌≡◌ {A = ℕ} 0 1 = cc in omega arith)
   refusal (Err f') f e = ap Err (cc)
 
-  pub listed_refused : (number : ℕ) (f : Fault) → Err f ≡ passes (check S key n bs) → listed S key number bs ≡ Err f
+  pub listed_refused : (number : ℕ) (f : Fault) → Err f ≡ passes (check S key 4096 bs) → listed S key number bs ≡ Err f
   unfolding listed
   listed_refused number f e = ap (λ o. and_then o (λ xs. Ok (card_line number S.version (length xs) ++ sheet_lines 0 xs))) (refusal (check_bytes S key bs) f (e ∙ ap passes goes_on))
 
@@ -36,18 +34,18 @@ module _ (S : Sealing) (key bs : List ℕ) (n : ℕ) (hk : length key ≡ 16) (h
   pub record Listed (number : ℕ) : Type 0 where
     pub sheets : List Sheet
     pub text : listed S key number bs ≡ Ok (card_line number S.version (length sheets) ++ sheet_lines 0 sheets)
-    pub card : filled (check S key n bs) ≡ checked S key bs sheets
+    pub card : filled (check S key 4096 bs) ≡ checked S key bs sheets
     pub holds : Holds S (checked S key bs sheets) sheets
 
-  pub listed_passed : Laws S → Octets bs → (number : ℕ) → Ok tt ≡ passes (check S key n bs) → Listed number
+  pub listed_passed : Laws S → Octets bs → (number : ℕ) → Ok tt ≡ passes (check S key 4096 bs) → Listed number
   unfolding listed
   listed_passed L o number e =
       let x = passed (check_bytes S key bs) (e ∙ ap passes goes_on) in
       let xs = x.0 in
       let f = from_bytes S L key bs xs o x.1 in
       let r = passed_reads S L key bs xs hk o x.1 in
-      let is : check S key n bs ≡ Ok (checked S key bs xs) = goes_on ∙ ap (λ z. and_then z (λ ys. Ok (checked S key bs ys))) x.1 in
-      let same : r.card ≡ checked S key bs xs = let p = r.passes n hn in cc (p, is) in
+      let is : check S key 4096 bs ≡ Ok (checked S key bs xs) = goes_on ∙ ap (λ z. and_then z (λ ys. Ok (checked S key bs ys))) x.1 in
+      let same : r.card ≡ checked S key bs xs = let p = r.passes 4096 (le_refl 4096) in cc (p, is) in
       record {
         sheets = xs;
         text = ap (λ z. and_then z (λ ys. Ok (card_line number S.version (length ys) ++ sheet_lines 0 ys))) x.1;
@@ -59,12 +57,9 @@ module _ (S : Sealing) (key bs : List ℕ) (n : ℕ) (hk : length key ≡ 16) (h
       }
 
 -- what sheet answers of a card whose sheets are these
-module _ (S : Sealing) (c : Card) (xs : List Sheet) (h : Holds S c xs) (i b : ℕ) (lt : i < length xs) (full : b ≡ 4096) (d : Sheet) where
-  answers : sheet_answer S c i b ≡ Ok (get_or xs i d)
-  answers = ap (sheet_answer S c i) full ∙ h.gives i d lt
+pub shows : (S : Sealing) (c : Card) (i b : ℕ) (xs : List Sheet) → Holds S c xs → i < length xs → b ≡ 4096
+    → headed (sheet_answer S c i b) ≡ headed (Ok (get_or xs i nothing))
+shows S c i b xs h lt full = ap (λ k. headed (sheet_answer S c i k)) full ∙ ap headed (h.gives i nothing lt)
 
-  pub never_refused : (f : Fault) → Err f ≡ headed (sheet_answer S c i b) → ⊥
-  never_refused f e = let q = e ∙ ap headed answers in let z : ◌≡◌ {A = ℕ} 0 1 = cc in omega arith
-
-  pub line_is : (a : SheetHead) → Ok a ≡ headed (sheet_answer S c i b) → sheet_line i a.cell a.edition a.«length» ≡ sheet_line i (get_or xs i d).cell (get_or xs i d).edition (length (get_or xs i d).body)
-  line_is a e = let q = e ∙ ap headed answers in ap (λ (x : SheetHead). sheet_line i x.cell x.edition x.«length») (cc (q))
+pub never_refused : (S : Sealing) (c : Card) (i b : ℕ) (xs : List Sheet) (f : Fault) → Holds S c xs → i < length xs → b ≡ 4096 → Err f ≡ headed (sheet_answer S c i b) → ⊥
+never_refused S c i b xs f h lt full e = let q = e ∙ shows S c i b xs h lt full in let z : ◌≡◌ {A = ℕ} 0 1 = cc in omega arith

@@ -111,6 +111,7 @@ impl fmt::Display for SheetLine {
 }
 
 // A card's lines, with those of its sheets after the text. Sheets are asked for by their numbers.
+#[tactic(auto, using(crate::proofs::Lines::text_none, crate::proofs::Lines::text_more, crate::proofs::Passing::shows))]
 fn list_sheets<const B: usize, S: Suite<B>>(
     card: &Card<'_>,
     mut text: String,

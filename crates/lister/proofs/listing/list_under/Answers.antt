@@ -1,9 +1,9 @@
-use Rattle.std.proofs.Common.{ℕ, ◌<◌, List, ◌++◌, Ok, Result, sym, ap, ◌∙◌, subst, le_refl, arith}
+use Rattle.std.proofs.Common.{ℕ, ◌<◌, List, ◌++◌, Ok, Result, sym, ap, ◌∙◌, subst, arith}
 use Rattle.std.proofs.ByRecursion.{All-from_get_or}
 use Rattle.std.proofs.lemmas.Result.{err_from_is_err_and}
 use Rattle.spoc.specs.Sealing.{Sealing, Laws, Octets, spoc}
 use Rattle.spoc.proofs.Law.{spoc_laws}
-use Rattle.cards.specs.Faults.{Fault, of_card}
+use Rattle.cards.specs.Faults.{Fault}
 use Rattle.cards.specs.Reader.{Card}
 use Rattle.lister.specs.Printed.{card_line, sheet_lines, Holds, Says}
 use Rattle.lister.proofs.Passing.{listed_refused, listed_passed}
@@ -19,15 +19,14 @@ laws g = spoc_laws g.S.Bijection.meaning g.S.SuiteModel.plan g.met.S.SuiteModel.
 pub returns-in_err-check : goal.returns-in_err-check
 returns-in_err-check g c =
     let res = err_from_is_err_and c.from_residual.result c.from_residual.ensures.1 in
-    let e = listed_refused (cipher g) c.args.key.now c.args.bytes.now 4096 c.told-key (le_refl 4096) c.args.number (of_card c.in_err-check.field-0.0) c.in_err-check.ensures.answer in
-    rw (res.1, res.2) e
+    rw (res.1, res.2) (listed_refused (cipher g) c.args.key.now c.args.bytes.now c.told-key c.args.number _ c.in_err-check.ensures.answer)
 
 pub returns : goal.returns
 returns g c =
     let S = cipher g in
     let bs = c.args.bytes.now in
     let o : Octets bs = All-from_get_or (λ x. x < 256) bs 0 (λ i lt. omega (arith, c.type_inv.bytes i)) in
-    let x = listed_passed S c.args.key.now bs 4096 c.told-key (le_refl 4096) (laws g) o c.args.number c.in_ok-check.ensures.answer in
+    let x = listed_passed S c.args.key.now bs c.told-key (laws g) o c.args.number c.in_ok-check.ensures.answer in
     let is = c.in_ok-check.ensures.fills ∙ x.card in
     let held = subst (λ (d : Card). Holds S d x.sheets) (sym is) x.holds in
     let text =
