@@ -1,7 +1,9 @@
 ghost use Rattle.std.specs.Prelude.{◌≡◌, List, ◌++◌, IfOk, Ok, Some, string_bytes};
 ghost use Rattle.spoc.specs.Sealing.{spoc as spoc_of};
-ghost use Rattle.cards.specs.Faults.{told};
+ghost use Rattle.cards.specs.Faults.{at, told};
 ghost use Rattle.cards.specs.Format.{Sheet};
+ghost use Rattle.cards.specs.declared.CardFault.TheVariants as card;
+ghost use Rattle.cards.specs.declared.CardNo.TheVariants.{Version};
 ghost use Rattle.reader.specs.Cards.{shown};
 ghost use Rattle.lister.specs.declared.listing.Unlisted.TheVariants.{Refused, Memory};
 ghost use Rattle.lister.specs.Printed.{card_line, sheet_line, sheet_lines, listed, header_asked, card_listed, input_listed, listing_text, Says, Holds};
@@ -57,6 +59,14 @@ impl From<CardFault> for Unlisted {
 
     fn from(fault: CardFault) -> Unlisted {
         Unlisted::Refused(fault)
+    }
+}
+
+impl From<NoSuchVersion> for Unlisted {
+    ghost from_gives = { λ _ r. r ≡ Refused (card.Own (at Version 0 3)) };
+
+    fn from(_none: NoSuchVersion) -> Unlisted {
+        Unlisted::Refused(CardNo::Version.at(0, 3))
     }
 }
 
@@ -152,11 +162,10 @@ fn list_card(heap: Global, key: &[u8; 16], bytes: &[u8]) -> Result<String, Unlis
     ensures { Says result (card_listed key.now bytes.now) }
 {
     let Header { version, number } = Header::try_from(bytes)?;
-    match SuiteName::try_from(u64::from(version)) {
-        Ok(SuiteName::Spoc64) => list_under::<24, Spoc64>(heap, key, number, bytes),
-        Ok(SuiteName::Spoc128) => list_under::<32, Spoc128>(heap, key, number, bytes),
-        Ok(SuiteName::Bench) => list_under::<32, Bench>(heap, key, number, bytes),
-        Err(NoSuchVersion) => Err(Unlisted::Refused(CardNo::Version.at(0, 3))),
+    match SuiteName::try_from(u64::from(version))? {
+        SuiteName::Spoc64 => list_under::<24, Spoc64>(heap, key, number, bytes),
+        SuiteName::Spoc128 => list_under::<32, Spoc128>(heap, key, number, bytes),
+        SuiteName::Bench => list_under::<32, Bench>(heap, key, number, bytes),
     }
 }
 

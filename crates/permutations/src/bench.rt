@@ -1,4 +1,4 @@
-ghost use Rattle.std.specs.Prelude.{◌≡◌, length};
+ghost use Rattle.std.specs.Prelude.{◌≡◌, ◌≤◌, length, MatchResult};
 ghost use Rattle.permutations.specs.Bench.{bench, bench_walk};
 ghost use Rattle.permutations.specs.Bytes.{xors};
 ghost use Rattle.permutations.specs.Benches;
@@ -14,6 +14,16 @@ fn xor_into(a: &[u8], b: &[u8], out: &mut [u8])
     for (i, x) in out.iter_mut().enumerate() {
         *x = a[i] ^ b[i];
     }
+}
+
+// Whether i is step 0, the only one.
+fn only_step(i: usize) -> Result<(), NoSuchStep>
+    ensures { MatchResult result (λ _. i ≡ 0) (λ _. 1 ≤ i) }
+{
+    if i >= 1 {
+        return Err(NoSuchStep);
+    }
+    Ok(())
 }
 
 // The bench permutation: four quarters of 8 bytes, for pencil and paper.
@@ -53,19 +63,14 @@ impl Stepped<32> for Bench {
         1
     }
 
-    // A guard here and in unstep: there is no table to look a step up in.
     fn step(state: &mut [u8; 32], i: usize) -> Result<(), NoSuchStep> {
-        if i >= 1 {
-            return Err(NoSuchStep);
-        }
+        only_step(i)?;
         Bench::forward(state);
         Ok(())
     }
 
     fn unstep(state: &mut [u8; 32], i: usize) -> Result<(), NoSuchStep> {
-        if i >= 1 {
-            return Err(NoSuchStep);
-        }
+        only_step(i)?;
         Bench::back(state);
         Ok(())
     }

@@ -49,7 +49,6 @@ fn word_at<const B: usize, W: StateBytes<B>>(state: &[u8; B], i: usize) -> u32
     ensures value { result ≡ slice_index (loads W.BYTES 8 state.now) i }
     ensures fits { result < 2 ^ (8 * W.BYTES) }
 {
-    W::sized();
     let bytes = &state[..];
     load_word::<W>(&bytes[i * W::BYTES..(i + 1) * W::BYTES])
 }

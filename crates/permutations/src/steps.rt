@@ -53,7 +53,6 @@ impl<W: Width> State<W> {
         W: StateBytes<B>,
         ensures { state.new ≡ store_state W.BYTES self }
     {
-        W::sized();
         let bytes = &mut state[..];
         // By index: a proof forgets what is written through chunks_exact_mut.
         for (i, word) in self.words().iter().enumerate() {

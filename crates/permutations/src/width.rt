@@ -56,9 +56,8 @@ pub trait Width {
 
 // The width whose state has B bytes.
 pub trait StateBytes<const B: usize>: Width {
-    // B is the size that is meant; generic code calls this to know it.
-    fn sized()
-        ensures { B ≡ Self.Width.BYTES * 8 };
+    // B is the size that is meant.
+    ghost sized: { B ≡ Self.Width.BYTES * 8 };
 }
 
 // The words of sLiSCP-light-[192].
@@ -103,7 +102,7 @@ impl Width for Bits24 {
 }
 
 impl StateBytes<24> for Bits24 {
-    fn sized() {}
+    ghost sized = { refl };
 }
 
 // The words of sLiSCP-light-[256].
@@ -146,5 +145,5 @@ impl Width for Bits32 {
 }
 
 impl StateBytes<32> for Bits32 {
-    fn sized() {}
+    ghost sized = { refl };
 }

@@ -11,6 +11,7 @@ pub fn find(card: &Card<'_>, cell: u32) -> Option<usize>
     ensures finds { Finds (shown card.now) cell result }
     ensures tells { (S : Sealing) → FindTells S }
 {
+    // A loop and no max_by_key, which takes the last among equals.
     let mut best: Option<(usize, u16)> = None;
     for rest in card.sheets() {
         let head = rest.head();

@@ -1,9 +1,11 @@
 ghost use Rattle.std.specs.Prelude.{◌≡◌, ◌+◌, ◌<◌, ◌≤◌, length, drop};
-ghost use Rattle.cards.specs.Faults.{recorded};
+ghost use Rattle.cards.specs.Faults.{at, recorded};
+ghost use Rattle.cards.specs.declared.RecordFault.TheVariants as rec;
 ghost use Rattle.cards.specs.Reader.{body_of, length_of, parse as parse_of, tag_of};
 ghost use Rattle.reader.specs.Heads.{fields};
 ghost use Rattle.reader.specs.Said.{said, asked};
 
+use crate::key::front;
 use crate::rest::{Record, Rest, SheetHead};
 use cards::{HEAD_BYTES, HEADER_BYTES, Kind, MOST_BODY, MOST_SHEETS, RecordFault, RecordNo};
 
@@ -27,9 +29,7 @@ impl<'a> Rest<'a> {
         ensures fields { result ≡ fields self.now.bytes.now }
         ensures short { result.length ≤ 65535 }
     {
-        let [_, c0, c1, c2, c3, e0, e1, l0, l1, ..] = *self.bytes else {
-            unreachable()
-        };
+        let [_, c0, c1, c2, c3, e0, e1, l0, l1] = *front::<HEAD_BYTES>(self.bytes);
         SheetHead {
             cell: u32::from_be_bytes([c0, c1, c2, c3]),
             edition: u16::from_be_bytes([e0, e1]),
@@ -88,12 +88,16 @@ impl<'a> Rest<'a> {
         requires { rate ≤ 16 }
         ensures { said result ≡ parse_of rate self.now.number self.now.place self.now.bytes.now }
     {
-        if self.bytes.len() < HEAD_BYTES {
-            return Err(RecordNo::Cut.at(self.number, self.place));
-        }
-        let kind = Kind::try_from(self.bytes[0])
-            .ok()
-            .ok_or(RecordNo::Kind.at(self.number, self.place))?;
+        let (number, place) = (self.number, self.place);
+        let [kind, ..] = *self
+            .bytes
+            .first_chunk::<HEAD_BYTES>()
+            .ok_or(RecordNo::Cut.at(number, place))?;
+        let kind = Kind::try_from(kind).map_err(
+            |no|
+                ensures { result ≡ rec.Own (at no number place) }
+            { no.at(number, place) },
+        )?;
         let head = self.head();
         self.ask(kind, head)?;
         if self.bytes.len() < HEAD_BYTES + head.length + rate {

@@ -1,5 +1,5 @@
 ghost use Rattle.std.specs.Prelude.{◌≡◌, ◌<◌, IfOk, Some, vec_items};
-ghost use Rattle.script.specs.Hex.{hex_digit, byte_of, pairs, bytes_of, upper, hex_text, ReadsBack};
+ghost use Rattle.script.specs.Hex.{hex_digit, byte_of, pairs, bytes_of, hex_text, ReadsBack};
 ghost use Rattle.script.specs.Reasons.{Holds};
 
 use crate::unread::Unread;

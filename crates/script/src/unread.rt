@@ -52,6 +52,7 @@ impl fmt::Display for Unread {
     }
 }
 
+// Of what found no memory the reason says no more, so neither From keeps it.
 impl From<AllocError> for Unread {
     ghost from_gives = { λ _ r. r ≡ Memory };
 

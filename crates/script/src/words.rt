@@ -11,7 +11,8 @@ fn first_space(line: &[u8]) -> Option<usize>
     line.iter().position(|b| *b == b' ')
 }
 
-// The first word of a line, and what follows the space after it.
+// The first word of a line, and what follows the space after it. No split or splitn: those don't hand out what is left, which finish
+// asks after, and a line that ends in a space has a last word that is empty.
 #[tactic(auto, using(crate::proofs::Splitting::split_there, crate::proofs::Splitting::split_nowhere))]
 fn split_word(line: &[u8]) -> (&[u8], Option<&[u8]>)
     ensures { words line.now ≡ result.0.now ∷ words_in (option_map (λ x. x.now) result.1) }

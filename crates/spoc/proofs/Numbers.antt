@@ -1,18 +1,13 @@
 -- Bytes as numbers: parts of a half, words and subblocks. Assumes nothing.
-use Rattle.std.proofs.Common.{◌≡◌, ℕ, zero, suc, ◌+◌, ◌*◌, ◌/◌, ◌%◌, ◌^◌, ◌<◌, List, [], ◌∷◌, ◌++◌, length, get_or, take, drop, replicate, sym, refl, ap, ◌∙◌, subst, ap₂, append-nil, mul_assoc, add-mul, zero-add, zero-mul, arith, length-append, length-drop, take-append-drop, length-take, pow-add}
+use Rattle.std.proofs.Common.{◌≡◌, ℕ, zero, suc, ◌+◌, ◌*◌, ◌/◌, ◌%◌, ◌^◌, ◌<◌, List, [], ◌∷◌, ◌++◌, length, get_or, take, drop, sym, refl, ap, ◌∙◌, subst, ap₂, append-nil, mul_assoc, add-mul, zero-add, zero-mul, arith, length-append, length-drop, take-append-drop, pow-add}
 use lib.Arith.{digits_div, digits_mod}
-use lib.Bits.{bit_and, bit_xor, and_mask, xor_assoc, xor_mod, xor_shr, xor_zero_r}
-use borrow.Rule.Slice.PartMut.{put_mid}
+use lib.Bits.{bit_and, and_mask}
 use Rattle.std.proofs.ByRecursion.{All-drop}
-use Rattle.std.proofs.lemmas.List.{length-replicate}
-use Rattle.permutations.specs.Bytes.{load, store, stores, xors}
+use Rattle.permutations.specs.Bytes.{load, store, stores}
 use Rattle.permutations.specs.Permutation.{Bytes}
-use Rattle.permutations.specs.Loading.{pow_bytes}
 use Rattle.permutations.specs.Words.{Byte, load_4, load_lt, store_4, store_load}
-use Rattle.spoc.specs.Feed.{put}
-use Rattle.spoc.specs.Spoc64.{masked_64, loaded}
+use Rattle.spoc.specs.Spoc64.{loaded}
 use Rattle.spoc.specs.Parts.{bytes_append, cut_front, cut_back}
-use Rattle.spoc.specs.Rows.{length_xors_le, xors_zeros}
 
 pub load_8 : (p : List ℕ) → length p ≡ 8
     → load p ≡ get_or p 0 0 * 72057594037927936 + get_or p 1 0 * 281474976710656 + get_or p 2 0 * 1099511627776 + get_or p 3 0 * 4294967296 + get_or p 4 0 * 16777216 + get_or p 5 0 * 65536 + get_or p 6 0 * 256 + get_or p 7 0
@@ -96,12 +91,6 @@ module _ (k : List ℕ) (h : Bytes 8 k) where
   low_word : bit_and (load k) 4294967295 ≡ load (drop 4 k)
   low_word = and_mask (load k) 32 ∙ load_back 4 4 k h
 
-  pub high_stored : store 4 (load k / 4294967296) ≡ take 4 k
-  high_stored = ap (store 4) high_word ∙ stored 4 (take 4 k) (cut_front 4 k (omega arith) h)
-
-  pub low_stored : store 4 (bit_and (load k) 4294967295) ≡ drop 4 k
-  low_stored = ap (store 4) low_word ∙ stored 4 (drop 4 k) (cut_back 4 4 k refl h)
-
 -- the subblocks that SpoC-64 starts from
 pub parts_stored : (k0 k1 n0 : List ℕ) → Bytes 8 k0 → Bytes 8 k1 → Bytes 8 n0 → (x y z s0 s2 : ℕ) → x ≡ load k0 → y ≡ load k1 → z ≡ load n0
     → s0 ≡ z / 4294967296 * 65536 + x % 65536 → s2 ≡ bit_and z 4294967295 * 65536 + y % 65536
@@ -115,82 +104,3 @@ parts_stored k0 k1 n0 h0 h1 hn x y z s0 s2 ex ey ez e0 e2 =
     (ap (λ a. store 6 (a / 65536)) ex ∙ front_stored k0 h0)
     (ap (store 6) third ∙ tail_stored k1 h1 (drop 4 n0) (cut_back 4 4 n0 refl hn))
     (ap (λ a. store 6 (a / 65536)) ey ∙ front_stored k1 h1)
-
--- ---- xor of two numbers, byte by byte
-pub store_xor : (n x y : ℕ) → store n (bit_xor x y) ≡ xors (store n x) (store n y)
-unfolding store xors
-store_xor zero x y = refl
-store_xor (suc n) x y =
-    let e = pow_bytes n in
-    ap₂ (λ a (t : List ℕ). a ∷ t)
-    (ap (λ z. bit_xor x y / z % 256) e ∙ ap (λ z. z % 256) (xor_shr x y (8 * n)) ∙ xor_mod (x / 2 ^ (8 * n)) (y / 2 ^ (8 * n)) 8 ∙ ap (λ z. bit_xor (x / z % 256) (y / z % 256)) (sym e))
-    (store_xor n x y)
-
--- ---- a word xored into a part is xored into the whole with zeros around it
-
-xors_append : (a b c d : List ℕ) → length a ≡ length c → xors (a ++ b) (c ++ d) ≡ xors a c ++ xors b d
-unfolding xors
-xors_append [] b [] d e = refl
-xors_append [] b (z ∷ c) d e = absurd (omega arith)
-xors_append (x ∷ a) b [] d e = absurd (omega arith)
-xors_append (x ∷ a) b (z ∷ c) d e = ap (λ t. bit_xor x z ∷ t) (xors_append a b c d (omega arith))
-
-xors_assoc : (a b c : List ℕ) → xors (xors a b) c ≡ xors a (xors b c)
-unfolding xors
-xors_assoc [] b c = refl
-xors_assoc (x ∷ a) [] c = refl
-xors_assoc (x ∷ a) (y ∷ b) [] = refl
-xors_assoc (x ∷ a) (y ∷ b) (z ∷ c) = ap₂ (λ u (t : List ℕ). u ∷ t) (xor_assoc x y z) (xors_assoc a b c)
-
--- a mask with y at the place n, and m zeros after it
-abbrev among : ℕ → List ℕ → ℕ → List ℕ
-among n y m = replicate n 0 ++ (y ++ replicate m 0)
-
-xor_part : (n k m : ℕ) (s y : List ℕ) → length y ≡ k → n + (k + m) ≡ length s → put_mid n k s (xors (take k (drop n s)) y) ≡ xors s (among n y m)
-xor_part n k m s y wide e =
-    let d : List ℕ = drop n s in
-    let ld : length d ≡ k + m = length-drop n s ∙ omega arith in
-    let la : length (take n s) ≡ length (replicate {A = ℕ} n 0) = length-take n s ∙ omega (arith, length-replicate {A = ℕ} n 0) in
-    let lb : length (take k d) ≡ length y = length-take k d ∙ omega arith in
-    sym
-    (ap (λ z. xors z (among n y m)) (sym (take-append-drop n s))
-    ∙ xors_append (take n s) d (replicate n 0) (y ++ replicate m 0) la
-    ∙ ap₂ (λ (a b : List ℕ). a ++ b) (xors_zeros (take n s) n (omega (arith, length-take n s)))
-    (ap (λ z. xors z (y ++ replicate m 0)) (sym (take-append-drop k d))
-    ∙ xors_append (take k d) (drop k d) y (replicate m 0) lb
-    ∙ ap (λ z. xors (take k d) y ++ z) (xors_zeros (drop k d) m (omega (arith, length-drop k d)))))
-
--- a list of eight is its elements
-eight : (P : List ℕ → Type 0) → ((a b c d e f g h : ℕ) → P (a ∷ b ∷ c ∷ d ∷ e ∷ f ∷ g ∷ h ∷ [])) → (s : List ℕ) → length s ≡ 8 → P s
-eight P f [] e = absurd (omega arith)
-eight P f (a ∷ []) e = absurd (omega arith)
-eight P f (a ∷ b ∷ []) e = absurd (omega arith)
-eight P f (a ∷ b ∷ c ∷ []) e = absurd (omega arith)
-eight P f (a ∷ b ∷ c ∷ d ∷ []) e = absurd (omega arith)
-eight P f (a ∷ b ∷ c ∷ d ∷ i ∷ []) e = absurd (omega arith)
-eight P f (a ∷ b ∷ c ∷ d ∷ i ∷ j ∷ []) e = absurd (omega arith)
-eight P f (a ∷ b ∷ c ∷ d ∷ i ∷ j ∷ k ∷ []) e = absurd (omega arith)
-eight P f (a ∷ b ∷ c ∷ d ∷ i ∷ j ∷ k ∷ l ∷ []) e = f a b c d i j k l
-eight P f (a ∷ b ∷ c ∷ d ∷ i ∷ j ∷ k ∷ l ∷ m ∷ s) e = absurd (omega arith)
-
--- the two words of a half at the masked places
-both_words : (n : List ℕ) → length n ≡ 8 → xors (among 6 (take 4 n) 14) (among 18 (drop 4 n) 2) ≡ put masked_64 n (replicate 24 0)
-unfolding xors
-both_words =
-    eight (λ n. xors (among 6 (take 4 n) 14) (among 18 (drop 4 n) 2) ≡ put masked_64 n (replicate 24 0))
-    (λ a b c d e f g h. simp xor_zero_r)
-
-pub words_masked : (s n x y : List ℕ) → length s ≡ 24 → Bytes 8 n → x ≡ xors (take 4 (drop 6 s)) (take 4 n) → y ≡ xors (take 4 (drop 18 (put_mid 6 4 s x))) (drop 4 n)
-    → put_mid 18 4 (put_mid 6 4 s x) y ≡ xors s (put masked_64 n (replicate 24 0))
-words_masked s n x y e h ex ey =
-    let high : length (take 4 n) ≡ 4 = (cut_front 4 n (omega arith) h).size in
-    let low_long : length (drop 4 n) ≡ 4 = (cut_back 4 4 n refl h).size in
-    let one : put_mid 6 4 s x ≡ xors s (among 6 (take 4 n) 14) = ap (put_mid 6 4 s) ex ∙ xor_part 6 4 14 s (take 4 n) high (omega arith) in
-    let t : List ℕ = put_mid 6 4 s x in
-    let lt : length t ≡ 24 =
-    ap length one ∙ length_xors_le s (among 6 (take 4 n) 14) (simp (length-append, length-replicate) (omega arith)) ∙ e in
-    ap (put_mid 18 4 t) ey
-    ∙ xor_part 18 4 2 t (drop 4 n) low_long (omega arith)
-    ∙ ap (λ z. xors z (among 18 (drop 4 n) 2)) one
-    ∙ xors_assoc s (among 6 (take 4 n) 14) (among 18 (drop 4 n) 2)
-    ∙ ap (xors s) (both_words n h.size)

@@ -2,7 +2,7 @@ ghost use Rattle.std.specs.Prelude.{refl};
 ghost use Rattle.spoc.specs.Bench.{bench_plan};
 ghost use Rattle.spoc.specs.Starts.{bench_sound};
 
-use crate::subblocks::{in_halves, store_subblocks};
+use crate::subblocks::{in_halves, state_of};
 use crate::suite::{Suite, SuiteModel};
 use permutations::Bench;
 
@@ -37,9 +37,7 @@ impl Suite<32> for Bench {
     fn start(key: &[u8; 16], nonce: &[u8; 16]) -> [u8; 32] {
         let k = in_halves(key);
         let n = in_halves(nonce);
-        let mut state = [0; 32];
-        store_subblocks([k.first, k.second, n.first, n.second], 8, &mut state);
-        state
+        state_of([k.first, k.second, n.first, n.second])
     }
 
     ghost version_is = { refl };

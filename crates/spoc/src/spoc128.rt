@@ -2,7 +2,7 @@ ghost use Rattle.std.specs.Prelude.{refl};
 ghost use Rattle.spoc.specs.Spoc128.{spoc_128};
 ghost use Rattle.spoc.specs.Starts.{sound_128};
 
-use crate::subblocks::{in_halves, store_subblocks};
+use crate::subblocks::{in_halves, state_of};
 use crate::suite::{Suite, SuiteModel};
 use permutations::Light256;
 
@@ -42,9 +42,7 @@ impl Suite<32> for Light256 {
     fn start(key: &[u8; 16], nonce: &[u8; 16]) -> [u8; 32] {
         let k = in_halves(key);
         let n = in_halves(nonce);
-        let mut state = [0; 32];
-        store_subblocks([n.first, k.first, n.second, k.second], 8, &mut state);
-        state
+        state_of([n.first, k.first, n.second, k.second])
     }
 
     ghost version_is = { refl };

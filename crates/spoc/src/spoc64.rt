@@ -5,7 +5,7 @@ ghost use Rattle.spoc.specs.Spoc64.{masked_64, loaded, spoc_64};
 ghost use Rattle.permutations.specs.Lights.{bijective_192};
 ghost use Rattle.spoc.specs.Starts.{sound_64};
 
-use crate::subblocks::{in_halves, store_subblocks, xor_word};
+use crate::subblocks::{in_halves, state_of};
 use crate::suite::{Suite, SuiteModel};
 use permutations::{Light192, Permutation};
 
@@ -34,18 +34,16 @@ fn load_state(key: &[u8; 16], nonce: &[u8; 16]) -> [u8; 24]
     let n = in_halves(nonce);
     let s0 = word_and_tail(n.first >> 32, k.first);
     let s2 = word_and_tail(n.first & 0xffff_ffff, k.second);
-    let mut state = [0; 24];
-    store_subblocks([s0, k.first >> 16, s2, k.second >> 16], 6, &mut state);
-    state
+    state_of([s0, k.first >> 16, s2, k.second >> 16])
 }
 
 // The second half of the nonce goes into the masked places.
 fn mask_nonce(state: &mut [u8; 24], nonce: &[u8; 16])
     ensures { state.new ≡ xors state.old (put masked_64 (drop 8 nonce.now) (replicate 24 0)) }
 {
-    let n = in_halves(nonce);
-    xor_word((n.second >> 32) as u32, &mut state[6..10]);
-    xor_word((n.second & 0xffff_ffff) as u32, &mut state[18..22]);
+    for (place, byte) in MASKED_PLACES.iter().zip(&nonce[8..]) {
+        state[*place] ^= *byte;
+    }
 }
 
 impl SuiteModel for Light192 {

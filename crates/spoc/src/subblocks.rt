@@ -1,5 +1,5 @@
-ghost use Rattle.std.specs.Prelude.{◌≡◌, ◌*◌, ◌≤◌, length, take, drop};
-ghost use Rattle.permutations.specs.Bytes.{load, store, stores, xors};
+ghost use Rattle.std.specs.Prelude.{◌≡◌, ◌*◌, ◌/◌, ◌≤◌, length, take, drop};
+ghost use Rattle.permutations.specs.Bytes.{load, store, stores};
 
 // A key or a nonce as two numbers, the highest byte of each first.
 #[derive(Clone, Copy)]
@@ -27,22 +27,17 @@ fn store_last(x: u64, part: &mut [u8])
     part.copy_from_slice(&bytes[8 - part.len()..8]);
 }
 
-// Four subblocks of `width` bytes, one after the other.
-pub(crate) fn store_subblocks(subblocks: [u64; 4], width: usize, state: &mut [u8])
-    requires { (width ≤ 8) × (length state.old ≡ width * 4) }
-    ensures { state.new ≡ stores width subblocks }
+// A state of four subblocks, one after the other.
+pub(crate) fn state_of<const B: usize>(subblocks: [u64; 4]) -> [u8; B]
+    requires { (B ≤ 32) × (B ≡ B / 4 * 4) }
+    ensures { result ≡ stores (B / 4) subblocks }
 {
+    let width = B / 4;
+    let mut state = [0; B];
+    let bytes = &mut state[..];
     // By index: a proof forgets what is written through chunks_exact_mut.
     for (i, subblock) in subblocks.iter().enumerate() {
-        store_last(*subblock, &mut state[i * width..i * width + width]);
+        store_last(*subblock, &mut bytes[i * width..(i + 1) * width]);
     }
-}
-
-// A word xored into four bytes, the highest first.
-pub(crate) fn xor_word(word: u32, part: &mut [u8])
-    requires { length part.old ≡ 4 }
-    ensures { part.new ≡ xors part.old (store 4 word) }
-{
-    let x = u32::from_be_bytes(*part.first_chunk::<4>().unwrap()) ^ word;
-    part.copy_from_slice(&x.to_be_bytes());
+    state
 }

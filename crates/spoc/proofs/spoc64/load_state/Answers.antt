@@ -11,6 +11,6 @@ returns c =
     let n = c.args.nonce.now in
     let bk : Bytes 16 k = record { size = search rules; small = All-from_get_or _ k 0 (search rules) } in
     let bn : Bytes 16 n = record { size = search rules; small = All-from_get_or _ n 0 (search rules) } in
-    c.store_subblocks.ensures
+    c.state_of.ensures
     ∙ parts_stored (take 8 k) (drop 8 k) (take 8 n) (first_half k bk) (second_half k bk) (first_half n bn) _ _ _ _ _
     c.in_halves-k.ensures.first c.in_halves-k.ensures.second c.in_halves-n.ensures.first c.word_and_tail-s0.ensures c.word_and_tail-s2.ensures

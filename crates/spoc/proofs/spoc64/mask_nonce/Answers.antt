@@ -1,21 +1,26 @@
-use Rattle.std.proofs.Common.{◌/◌, take, drop, ap, ◌∙◌, rules}
-use borrow.Rule.Slice.PartMut.{put_mid}
-use lib.Bits.{bit_and}
-use Rattle.std.proofs.ByRecursion.{All-from_get_or}
-use Rattle.permutations.specs.Bytes.{store, xors}
-use Rattle.permutations.specs.Permutation.{Bytes}
-use Rattle.spoc.proofs.Numbers.{high_stored, low_stored, words_masked}
-use Rattle.spoc.specs.Parts.{second_half}
+use Rattle.std.proofs.Common.{◌≡◌, ◌-◌, length, take, take_all, drop, sym, ◌∙◌, arith, rules, length-drop}
+use Rattle.std.proofs.lemmas.List.{length_push}
+use Rattle.std.proofs.lemmas.Slice.Zip.{zip_turn}
+use Rattle.permutations.specs.Light.{light_192}
+use Rattle.permutations.specs.Lights.{bijective_192}
+use Rattle.spoc.specs.Rows.{xors_zeros}
+use Rattle.spoc.specs.Spoc64.{masked_64, spoc_64}
+use Rattle.spoc.specs.Starts.{sound_64}
+use Rattle.spoc.proofs.Masks.{absorb_more}
 use Rattle.spoc.proofs.spoc64.mask_nonce.Goals as goal
 
-pub returns : goal.returns
-returns c =
-    let s = c.args.state.now in
-    let n = c.args.nonce.now in
-    let bn : Bytes 16 n = record { size = search rules; small = All-from_get_or _ n 0 (search rules) } in
-    let h : Bytes 8 (drop 8 n) = second_half n bn in
-    let e = c.in_halves-n.ensures.second in
-    let x = c.xor_word.new.part in
-    words_masked s (drop 8 n) x c.xor_word-2.new.part (search rules) h
-    (c.xor_word.ensures ∙ ap (λ z. xors (take 4 (drop 6 s)) (store 4 (z / 4294967296))) e ∙ ap (xors (take 4 (drop 6 s))) (high_stored (drop 8 n) h))
-    (c.xor_word-2.ensures ∙ ap (λ z. xors (take 4 (drop 18 (put_mid 6 4 s x))) (store 4 (bit_and z 4294967295))) e ∙ ap (xors (take 4 (drop 18 (put_mid 6 4 s x)))) (low_stored (drop 8 n) h))
+pub loop-place-init : goal.loop-place-init
+loop-place-init c =
+    let long : length c.args.state.now ≡ 24 = search rules in
+    (search rules, search rules, sym (xors_zeros c.args.state.now 24 (omega (arith, long))))
+
+pub loop-place-preserved : goal.loop-place-preserved
+loop-place-preserved c =
+    let vs = drop 8 c.args.nonce.now in
+    let nonce : length c.args.nonce.now ≡ 16 = search rules in
+    let wide : length vs ≡ 8 = omega (arith, nonce, length-drop 8 c.args.nonce.now) in
+    let xs = c.loop-place.yielded in
+    let part : c.into_iter-place-iterator.result.b.rest.now ≡ take (length c.args.nonce.now - 8) vs = search rules in
+    let second = part ∙ take_all (length c.args.nonce.now - 8) vs (omega (arith, nonce, wide)) in
+    let t = zip_turn masked_64 vs xs _ _ c.next.new.self _ (search rules) second c.loop-place.yielded_by (c.in-Some.place, c.in-Some.byte) c.in-Some.is c.next.ensures.steps in
+    (search rules, search rules, absorb_more light_192 spoc_64 (sound_64 bijective_192) c.args.state.now vs c.loop-place.state (length xs) c.in-Some.place.now c.in-Some.byte.now _ wide (omega (arith, t.1, wide)) (t.2 0) (t.3 0) (length_push xs (c.in-Some.place, c.in-Some.byte)) c.loop-place.invariant.2)

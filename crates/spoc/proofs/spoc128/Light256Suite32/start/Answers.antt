@@ -15,5 +15,5 @@ returns c =
     let bn : Bytes 16 n = record { size = search rules; small = All-from_get_or _ n 0 (search rules) } in
     let kh = c.in_halves-k.ensures in
     let nh = c.in_halves-n.ensures in
-    c.store_subblocks.ensures
+    c.state_of.ensures
     ∙ halves_stored _ _ _ _ (take 8 n) (take 8 k) (drop 8 n) (drop 8 k) (first_half n bn) (first_half k bk) (second_half n bn) (second_half k bk) nh.first kh.first nh.second kh.second
