@@ -4,7 +4,7 @@ use Rattle.std.specs.Int.{is_in_range}
 use Rattle.std.specs.List.{AllByRecursion, flat_map}
 use Rattle.std.specs.Str.{bytes_eq}
 use Rattle.script.specs.declared.unread.Unread.{Unread}
-use Rattle.script.specs.declared.unread.Unread.TheVariants.{EmptyWord, OddDigits, WrongDigit}
+use Rattle.script.specs.declared.unread.Unread.TheVariants.{EmptyWord, OddDigits, WrongDigit, NotOneByte}
 
 -- the value of a digit: 0 to 9, A to F, a to f
 abbrev pub hex_digit : ℕ → Result ℕ Unread
@@ -33,6 +33,13 @@ pairs (a ∷ b ∷ rest) = before (byte_of (hex_digit a) (hex_digit b)) (pairs r
 abbrev pub bytes_of : List ℕ → Result (List ℕ) Unread
 bytes_of [] = Err EmptyWord
 bytes_of (a ∷ rest) = cond (bytes_eq (a ∷ rest) (45 ∷ [])) (Ok []) (pairs (a ∷ rest))
+
+-- the byte, where one alone was read
+abbrev pub byte_alone : Result (List ℕ) Unread → Result ℕ Unread
+byte_alone (Err e) = Err e
+byte_alone (Ok []) = Err NotOneByte
+byte_alone (Ok (b ∷ [])) = Ok b
+byte_alone (Ok (b ∷ c ∷ bs)) = Err NotOneByte
 
 -- a digit below 16, in capitals
 abbrev pub upper : ℕ → ℕ

@@ -2,7 +2,7 @@
 use Rattle.std.specs.Prelude.{◌≡◌, ℕ, ◌⊎◌, List, ◌++◌, Ok, Err, codes, decimal, Result, MatchResult}
 use Rattle.script.specs.Names.{name_text}
 use Rattle.script.specs.declared.unread.Unread.{Unread}
-use Rattle.script.specs.declared.unread.Unread.TheVariants.{UnknownCall, UnknownPermutation, UnknownVersion, TooFewWords, TooManyWords, EmptyWord, OddDigits, WrongDigit, NotANumber, NumberTooLarge, StateLength, Memory}
+use Rattle.script.specs.declared.unread.Unread.TheVariants.{UnknownCall, UnknownPermutation, UnknownVersion, TooFewWords, TooManyWords, EmptyWord, OddDigits, WrongDigit, NotANumber, NumberTooLarge, CellTooLarge, EditionTooLarge, NotOneByte, StateLength, NoCard, CardOpen, Memory}
 
 -- a short phrase for each reason
 abbrev pub reason : Unread → List ℕ
@@ -16,8 +16,13 @@ reason OddDigits = codes "odd number of digits"
 reason WrongDigit = codes "not a hexadecimal digit"
 reason NotANumber = codes "not a decimal number"
 reason NumberTooLarge = codes "a number of more than 64 bits"
+reason CellTooLarge = codes "a number of more than 32 bits"
+reason EditionTooLarge = codes "a number of more than 16 bits"
+reason NotOneByte = codes "not one byte"
 reason (StateLength name expected found) =
     codes "a state of " ++ (name_text name ++ (codes " has " ++ (decimal expected ++ (codes " bytes, not " ++ decimal found))))
+reason NoCard = codes "no card is being written"
+reason CardOpen = codes "a card is being written"
 reason Memory = codes "out of memory"
 
 -- what was read, as view sees it in memory; the reason may also be want of memory

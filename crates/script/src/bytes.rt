@@ -1,5 +1,5 @@
 ghost use Rattle.std.specs.Prelude.{◌≡◌, ◌<◌, IfOk, Some, vec_items};
-ghost use Rattle.script.specs.Hex.{hex_digit, byte_of, pairs, bytes_of, hex_text, ReadsBack};
+ghost use Rattle.script.specs.Hex.{hex_digit, byte_of, pairs, bytes_of, byte_alone, hex_text, ReadsBack};
 ghost use Rattle.script.specs.Reasons.{Holds};
 
 use crate::unread::Unread;
@@ -47,6 +47,16 @@ pub fn read_bytes(heap: Global, word: &[u8]) -> Result<Vec<u8>, Unread>
         [] => Err(Unread::EmptyWord),
         b"-" => Ok(Vec::new(heap)),
         _ => read_pairs(heap, word),
+    }
+}
+
+// Reads one byte.
+pub fn read_byte(heap: Global, word: &[u8]) -> Result<u8, Unread>
+    ensures { Holds (λ b. b) result (byte_alone (bytes_of word.now)) }
+{
+    match read_bytes(heap, word)?.as_slice() {
+        [b] => Ok(*b),
+        _ => Err(Unread::NotOneByte),
     }
 }
 

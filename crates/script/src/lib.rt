@@ -10,9 +10,9 @@ mod tests;
 mod unread;
 mod words;
 
-pub use bytes::{Hex, read_bytes};
+pub use bytes::{Hex, read_byte, read_bytes};
 pub use line::{is_silent, without_return};
-pub use names::{CallName, CipherCall, PermutationCall, PermutationName};
-pub use number::read_number;
+pub use names::{CallName, CipherCall, PermutationCall, PermutationName, ReaderCall, WriterCall};
+pub use number::{read_cell, read_edition, read_number};
 pub use unread::Unread;
 pub use words::Words;

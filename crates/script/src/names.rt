@@ -21,11 +21,30 @@ pub enum CipherCall {
     OpenInto,
 }
 
+// A call of the reader.
+#[derive(Clone, Copy, Debug, PartialEq, Eq)]
+pub enum ReaderCall {
+    Check,
+    Sheet,
+    Find,
+}
+
+// A call of the writer: a card is begun by Write, and its calls are made at End.
+#[derive(Clone, Copy, Debug, PartialEq, Eq)]
+pub enum WriterCall {
+    Write,
+    Append,
+    Close,
+    End,
+}
+
 // What a line asks for. Calls of one kind begin with the same words.
 #[derive(Clone, Copy, Debug, PartialEq, Eq)]
 pub enum CallName {
     Permutation(PermutationCall),
     Cipher(CipherCall),
+    Reader(ReaderCall),
+    Writer(WriterCall),
 }
 
 impl TryFrom<&[u8]> for CallName {
@@ -43,6 +62,13 @@ impl TryFrom<&[u8]> for CallName {
             b"open" => Ok(CallName::Cipher(CipherCall::Open)),
             b"seal-into" => Ok(CallName::Cipher(CipherCall::SealInto)),
             b"open-into" => Ok(CallName::Cipher(CipherCall::OpenInto)),
+            b"check" => Ok(CallName::Reader(ReaderCall::Check)),
+            b"sheet" => Ok(CallName::Reader(ReaderCall::Sheet)),
+            b"find" => Ok(CallName::Reader(ReaderCall::Find)),
+            b"write" => Ok(CallName::Writer(WriterCall::Write)),
+            b"append" => Ok(CallName::Writer(WriterCall::Append)),
+            b"close" => Ok(CallName::Writer(WriterCall::Close)),
+            b"end" => Ok(CallName::Writer(WriterCall::End)),
             _ => Err(Unread::UnknownCall),
         }
     }

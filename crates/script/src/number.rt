@@ -1,7 +1,7 @@
 ghost use Rattle.std.specs.Prelude.{◌≡◌, ◌+◌, ◌*◌, ◌^◌, ◌≤◌, All, IfSome, IfNone};
 ghost use Rattle.std.specs.Char.{is_ascii_digit};
 ghost use Rattle.std.specs.List.{list_all};
-ghost use Rattle.script.specs.Numbers.{value_after, number_of};
+ghost use Rattle.script.specs.Numbers.{value_after, number_of, number_below, cell_of, edition_of};
 
 use crate::unread::Unread;
 
@@ -31,9 +31,9 @@ fn value_of(digits: &[u8]) -> Option<u64>
         .try_fold(0, |number, b| with_digit(number, *b - b'0'))
 }
 
-// Reads a decimal number of at most 64 bits.
-pub fn read_number(word: &[u8]) -> Result<u64, Unread>
-    ensures { result ≡ number_of word.now }
+// The value of a word of digits, where it fits 64 bits; else the reason is the one given.
+fn read_digits(word: &[u8], too_large: Unread) -> Result<u64, Unread>
+    ensures { result ≡ number_below (2 ^ 64) too_large word.now }
 {
     if word.is_empty() {
         return Err(Unread::EmptyWord);
@@ -41,5 +41,28 @@ pub fn read_number(word: &[u8]) -> Result<u64, Unread>
     if !are_digits(word) {
         return Err(Unread::NotANumber);
     }
-    value_of(word).ok_or(Unread::NumberTooLarge)
+    value_of(word).ok_or(too_large)
+}
+
+// Reads a decimal number of at most 64 bits.
+pub fn read_number(word: &[u8]) -> Result<u64, Unread>
+    ensures { result ≡ number_of word.now }
+{
+    read_digits(word, Unread::NumberTooLarge)
+}
+
+// Reads a cell, a number of at most 32 bits.
+pub fn read_cell(word: &[u8]) -> Result<u32, Unread>
+    ensures { result ≡ cell_of word.now }
+{
+    let number = read_digits(word, Unread::CellTooLarge)?;
+    u32::try_from(number).ok().ok_or(Unread::CellTooLarge)
+}
+
+// Reads an edition, a number of at most 16 bits.
+pub fn read_edition(word: &[u8]) -> Result<u16, Unread>
+    ensures { result ≡ edition_of word.now }
+{
+    let number = read_digits(word, Unread::EditionTooLarge)?;
+    u16::try_from(number).ok().ok_or(Unread::EditionTooLarge)
 }

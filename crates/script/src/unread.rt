@@ -19,11 +19,16 @@ pub enum Unread {
     WrongDigit,
     NotANumber,
     NumberTooLarge,
+    CellTooLarge,
+    EditionTooLarge,
+    NotOneByte,
     StateLength {
         of: PermutationName,
         expected: usize,
         found: usize,
     },
+    NoCard,
+    CardOpen,
     Memory,
 }
 
@@ -42,11 +47,16 @@ impl fmt::Display for Unread {
             Unread::WrongDigit => f.write_str("not a hexadecimal digit"),
             Unread::NotANumber => f.write_str("not a decimal number"),
             Unread::NumberTooLarge => f.write_str("a number of more than 64 bits"),
+            Unread::CellTooLarge => f.write_str("a number of more than 32 bits"),
+            Unread::EditionTooLarge => f.write_str("a number of more than 16 bits"),
+            Unread::NotOneByte => f.write_str("not one byte"),
             Unread::StateLength {
                 of,
                 expected,
                 found,
             } => { write!(f, "a state of {of} has {expected} bytes, not {found}") }
+            Unread::NoCard => f.write_str("no card is being written"),
+            Unread::CardOpen => f.write_str("a card is being written"),
             Unread::Memory => f.write_str("out of memory"),
         }
     }

@@ -17,14 +17,14 @@ use Rattle.script.specs.Numbers.{number_of}
 use Rattle.script.specs.Reasons.{reason}
 use Rattle.script.specs.Words.{words, with_read, with_next, ending}
 use Rattle.script.specs.declared.CallName.{CallName}
-use Rattle.script.specs.declared.CallName.TheVariants.{Permutation, Cipher}
+use Rattle.script.specs.declared.CallName.TheVariants.{Permutation, Cipher, Reader, Writer}
 use Rattle.script.specs.declared.CipherCall.{CipherCall}
 use Rattle.script.specs.declared.PermutationCall.{PermutationCall}
 use Rattle.script.specs.declared.PermutationCall.TheVariants.{Forward, Back, Trace}
 use Rattle.script.specs.declared.PermutationName.{PermutationName}
 use Rattle.script.specs.declared.PermutationName.TheVariants.{Light192, Light256, Bench}
 use Rattle.script.specs.declared.Unread.{Unread}
-use Rattle.script.specs.declared.Unread.TheVariants.{UnknownVersion, StateLength, Memory}
+use Rattle.script.specs.declared.Unread.TheVariants.{UnknownCall, UnknownVersion, StateLength, Memory}
 use Rattle.workbench.specs.Sealings.{cipher_asked}
 
 -- state STATE
@@ -78,6 +78,8 @@ version_asked call ws = with_next number_of ws (λ v ws. versioned (suite_of v) 
 abbrev pub call_asked : CallName → List (List ℕ) → Result (List ℕ) Unread
 call_asked (Permutation call) = permutation_asked call
 call_asked (Cipher call) = version_asked call
+call_asked (Reader call) = λ ws. Err UnknownCall
+call_asked (Writer call) = λ ws. Err UnknownCall
 
 -- the words of a line, read from left to right
 abbrev pub asked : List (List ℕ) → Result (List ℕ) Unread

@@ -125,6 +125,8 @@ fn read_and_call(heap: Global, line: &[u8]) -> Result<String, Unread>
     match CallName::try_from(words.next_word()?)? {
         CallName::Permutation(call) => call_permutation(heap, call, words),
         CallName::Cipher(call) => call_version(heap, call, words),
+        CallName::Reader(_) => Err(Unread::UnknownCall),
+        CallName::Writer(_) => Err(Unread::UnknownCall),
     }
 }
 
