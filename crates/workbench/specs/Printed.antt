@@ -6,6 +6,7 @@ use Rattle.permutations.specs.Permutation.{Perm, Walk, stepped}
 use Rattle.script.specs.Hex.{bytes_of, hex_text}
 use Rattle.spoc.specs.Bench.{bench_plan}
 use Rattle.spoc.specs.Name.{suite_of}
+use Rattle.spoc.specs.Sealing.{Sealing, spoc}
 use Rattle.spoc.specs.Spoc128.{spoc_128}
 use Rattle.spoc.specs.Spoc64.{spoc_64}
 use Rattle.spoc.specs.declared.NoSuchVersion.{NoSuchVersion}
@@ -23,8 +24,10 @@ use Rattle.script.specs.declared.PermutationCall.{PermutationCall}
 use Rattle.script.specs.declared.PermutationCall.TheVariants.{Forward, Back, Trace}
 use Rattle.script.specs.declared.PermutationName.{PermutationName}
 use Rattle.script.specs.declared.PermutationName.TheVariants.{Light192, Light256, Bench}
+use Rattle.script.specs.declared.ReaderCall.{ReaderCall}
 use Rattle.script.specs.declared.Unread.{Unread}
 use Rattle.script.specs.declared.Unread.TheVariants.{UnknownCall, UnknownVersion, StateLength, Memory}
+use Rattle.card_calls.specs.Readings.{reader_asked}
 use Rattle.workbench.specs.Sealings.{cipher_asked}
 
 -- state STATE
@@ -74,11 +77,29 @@ versioned (Err e) = λ call ws. Err UnknownVersion
 abbrev pub version_asked : CipherCall → List (List ℕ) → Result (List ℕ) Unread
 version_asked call ws = with_next number_of ws (λ v ws. versioned (suite_of v) call ws)
 
+-- the suite that a version stands for
+abbrev pub suite_read : Result SuiteName NoSuchVersion → Result SuiteName Unread
+suite_read (Ok s) = Ok s
+suite_read (Err e) = Err UnknownVersion
+
+abbrev pub suite_named : List ℕ → Result SuiteName Unread
+suite_named w = with_read (number_of w) (λ v. suite_read (suite_of v))
+
+-- the cipher of a suite
+abbrev pub cipher_of : SuiteName → Sealing
+cipher_of Spoc64 = spoc light_192 spoc_64
+cipher_of Spoc128 = spoc light_256 spoc_128
+cipher_of SuiteBench = spoc bench bench_plan
+
+-- a call of the reader reads a version first
+abbrev pub card_asked : ReaderCall → List (List ℕ) → Result (List ℕ) Unread
+card_asked call ws = with_next suite_named ws (λ s ws. reader_asked (cipher_of s) call ws)
+
 -- each kind of call reads its own words
 abbrev pub call_asked : CallName → List (List ℕ) → Result (List ℕ) Unread
 call_asked (Permutation call) = permutation_asked call
 call_asked (Cipher call) = version_asked call
-call_asked (Reader call) = λ ws. Err UnknownCall
+call_asked (Reader call) = card_asked call
 call_asked (Writer call) = λ ws. Err UnknownCall
 
 -- the words of a line, read from left to right

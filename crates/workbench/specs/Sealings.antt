@@ -1,5 +1,5 @@
 -- What the calls of the cipher read and print. Assumes nothing.
-use Rattle.std.specs.Prelude.{ℕ, List, [], ◌∷◌, ◌++◌, length, replicate, Ok, Err, vec_items, codes, decimal, Result}
+use Rattle.std.specs.Prelude.{ℕ, List, [], ◌∷◌, ◌++◌, length, Ok, Err, vec_items, codes, decimal, Result}
 use Rattle.permutations.specs.Permutation.{Perm}
 use Rattle.spoc.specs.Fault.{fault_number, fault_layer}
 use Rattle.spoc.specs.Seal.{Sealed, Opened, sealed, opened}
@@ -11,6 +11,7 @@ use Rattle.script.specs.Words.{with_read, with_next, ending}
 use Rattle.script.specs.declared.CipherCall.{CipherCall}
 use Rattle.script.specs.declared.CipherCall.TheVariants.{Seal, Open, SealInto, OpenInto}
 use Rattle.script.specs.declared.Unread.{Unread}
+use Rattle.card_calls.specs.Readings.{fresh}
 use Rattle.workbench.specs.declared.cipher.Given.{Given}
 use Rattle.workbench.specs.declared.cipher.SealRun.{SealRun}
 use Rattle.workbench.specs.declared.cipher.OpenRun.{OpenRun}
@@ -33,10 +34,6 @@ seal_in s = record { answer = s.answer; out = vec_items s.out; tag = vec_items s
 -- what open answered, and its buffer in memory
 abbrev pub open_in : OpenRun → Opened
 open_in s = record { answer = s.answer; out = vec_items s.out }
-
--- a buffer of n bytes before a call
-abbrev pub fresh : ℕ → List ℕ
-fresh n = replicate n 0xA5
 
 -- seal with buffers of these lengths
 abbrev pub seal_with : Perm → Plan → Inputs → ℕ → ℕ → Sealed

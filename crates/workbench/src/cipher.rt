@@ -5,13 +5,11 @@ ghost use Rattle.script.specs.declared.CipherCall.TheVariants.{Seal, Open, SealI
 ghost use Rattle.spoc.specs.Fault.{fault_number, fault_layer};
 ghost use Rattle.workbench.specs.Sealings.{inputs_in, seal_in, open_in, seal_with, open_with, refused_text, first_line, seal_text, open_text, seal_into_text, open_into_text, inputs_of, given_asked, cipher_asked};
 
+use card_calls::FILLER;
 use script::{CipherCall, Hex, Unread, Words, read_bytes, read_number};
 use spoc::{SealFault, Suite, open, seal};
 use std::alloc::{AllocError, Global};
 use std::fmt;
-
-// What a buffer is filled with before a call.
-const FILLER: u8 = 0xA5;
 
 // What a call of the cipher is given: the text is a message or a ciphertext.
 #[derive(Drop)]
