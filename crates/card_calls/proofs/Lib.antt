@@ -1,2 +1,4 @@
 mod Finding
+mod Fronts
 mod Readers
+mod Writers

@@ -1,8 +1,6 @@
 -- What check, sheet and find answer, as the calls show it. Assumes nothing.
-use Rattle.std.proofs.Common.{◌≡◌, ℕ, ◌<◌, ◌≤◌, min, Bool, true, false, ◌&&◌, leb, List, length, take, drop, Ok, Err, Result, sym, refl, ap, ◌∙◌, inl, inr, arith}
-use Rattle.std.proofs.lemmas.Bool.{cases_lt}
+use Rattle.std.proofs.Common.{◌≡◌, ℕ, ◌<◌, ◌≤◌, Bool, true, false, ◌&&◌, leb, List, length, take, drop, Ok, Err, Result, sym, refl, ap, arith}
 use Rattle.std.proofs.lemmas.Bool.Decides.{nat_tests}
-use Rattle.std.proofs.lemmas.List.{take_all}
 use Rattle.cards.specs.Faults.{Fault}
 use Rattle.cards.specs.Reader.{Card, filled}
 use Rattle.reader.specs.Cards.{passes}
@@ -16,14 +14,6 @@ passed_is (Err f) c e is = absurd (let z : ◌≡◌ {A = ℕ} 0 1 = cc in omega
 pub refused_is : (o : Result Card Fault) (f : Fault) → Err f ≡ passes o → o ≡ Err f
 refused_is (Ok c) f e = absurd (let z : ◌≡◌ {A = ℕ} 0 1 = cc in omega arith)
 refused_is (Err x) f e = ap Err (cc)
-
--- the front of a buffer, of at most all its bytes
-pub take_min : {X : Type 0} (n k : ℕ) (s : List X) → k ≡ min n (length s) → take k s ≡ take n s
-take_min n k s e =
-    elim (cases_lt n (length s)) [
-      | inl l ↦ let is : k ≡ n = omega arith in ap (λ i. take i s) is
-      | inr g ↦ take_all k s (omega arith) ∙ sym (take_all n s g)
-    ]
 
 -- a scratch that is too short is not wiped
 pub short_is : (s : List ℕ) → length s < 4096 → false ≡ is_wiped s

@@ -1,1 +1,3 @@
+pub mod Suites
 pub mod Readings
+pub mod Writings

@@ -12,6 +12,7 @@ use Rattle.script.specs.Words.{with_read, with_next, ending}
 use Rattle.script.specs.declared.ReaderCall.{ReaderCall}
 use Rattle.script.specs.declared.ReaderCall.TheVariants as c
 use Rattle.script.specs.declared.Unread.{Unread}
+use Rattle.card_calls.specs.Suites.{suite_named, cipher_of}
 use Rattle.card_calls.specs.declared.reading.CheckRun.{CheckRun}
 use Rattle.card_calls.specs.declared.reading.SheetRun.{SheetRun}
 
@@ -128,20 +129,24 @@ unfoldable pub find_said : Sealing → List ℕ → ℕ → List ℕ → List �
 find_said S key cell bs = find_text (find_with S key cell bs)
 
 -- each call of the reader over a cipher, from the words after the version
-abbrev pub reader_asked : Sealing → ReaderCall → List (List ℕ) → Result (List ℕ) Unread
-reader_asked S c.Check ws =
+abbrev pub reader_over : Sealing → ReaderCall → List (List ℕ) → Result (List ℕ) Unread
+reader_over S c.Check ws =
     with_next bytes_of ws (λ key ws.
     with_next bytes_of ws (λ bs ws.
     with_next number_of ws (λ room ws.
     with_read (ending ws) (λ _. Ok (check_said S key bs room)))))
-reader_asked S c.Sheet ws =
+reader_over S c.Sheet ws =
     with_next bytes_of ws (λ key ws.
     with_next number_of ws (λ i ws.
     with_next number_of ws (λ room ws.
     with_next bytes_of ws (λ bs ws.
     with_read (ending ws) (λ _. Ok (sheet_said S key i room bs))))))
-reader_asked S c.Find ws =
+reader_over S c.Find ws =
     with_next bytes_of ws (λ key ws.
     with_next cell_of ws (λ cell ws.
     with_next bytes_of ws (λ bs ws.
     with_read (ending ws) (λ _. Ok (find_said S key cell bs)))))
+
+-- a call of the reader reads a version first
+abbrev pub reader_asked : ReaderCall → List (List ℕ) → Result (List ℕ) Unread
+reader_asked call ws = with_next suite_named ws (λ s ws. reader_over (cipher_of s) call ws)

@@ -1,6 +1,10 @@
-// The calls of a workbench script on cards, over any suite: what each reads, makes and prints.
+// The calls of a workbench script on cards: what each reads, makes and prints.
 #![tactic(auto)]
 
+mod front;
 mod reading;
+mod suites;
+mod writing;
 
 pub use reading::{FILLER, call_reader};
+pub use writing::Draft;

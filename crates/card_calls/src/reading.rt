@@ -1,16 +1,19 @@
-ghost use Rattle.std.specs.Prelude.{◌≡◌, IfOk, Some, length, string_bytes, take, ◌==◌};
+ghost use Rattle.std.specs.Prelude.{◌≡◌, IfOk, Some, length, string_bytes, ◌==◌};
 ghost use Rattle.script.specs.Reasons.{Holds};
 ghost use Rattle.script.specs.Words.{left};
 ghost use Rattle.script.specs.declared.ReaderCall.TheVariants.{Check, Sheet, Find};
 ghost use Rattle.spoc.specs.Sealing.{spoc as spoc_of};
 ghost use Rattle.cards.specs.Faults.{told};
 ghost use Rattle.cards.specs.Reader.{check as check_of, scratch_after};
-ghost use Rattle.card_calls.specs.Readings.{all_are, is_wiped, scratch_word, check_in, counted, check_with, check_text, check_said, sheet_in, read_answer, read_buffer, sheet_with, head_line, sheet_text, sheet_said, find_with, find_text, find_said, reader_asked};
+ghost use Rattle.card_calls.specs.Readings.{all_are, is_wiped, scratch_word, check_in, counted, check_with, check_text, check_said, sheet_in, read_answer, read_buffer, sheet_with, head_line, sheet_text, sheet_said, find_with, find_text, find_said, reader_over, reader_asked};
 
+use crate::front::front_of;
+use crate::suites::read_suite;
 use cards::{CardFault, MOST_BODY};
+use permutations::Bench;
 use reader::{Card, SheetHead, check, find, sheet};
 use script::{Hex, ReaderCall, Unread, Words, read_bytes, read_cell, read_number};
-use spoc::Suite;
+use spoc::{Spoc64, Spoc128, Suite, SuiteName};
 use std::alloc::{AllocError, Global};
 use std::fmt;
 
@@ -94,13 +97,6 @@ fn run_check<const B: usize, S: Suite<B>>(
     let mut scratch = vec![in heap; FILLER; room]?;
     let answer = check_and_count::<B, S>(key, bytes, scratch.as_mut_slice());
     Ok(CheckRun { answer, scratch })
-}
-
-// The first bytes of a buffer, as many as there are.
-fn front_of(bytes: &[u8], count: usize) -> &[u8]
-    ensures { result.now ≡ take count bytes.now }
-{
-    &bytes[..count.min(bytes.len())]
 }
 
 // What sheet answered of a sheet, or check where that refuses, and the buffer.
@@ -267,7 +263,7 @@ fn answer_find<const B: usize, S: Suite<B>>(
 
 // KEY CARD SCRATCH
 fn call_check<const B: usize, S: Suite<B>>(heap: Global, mut words: Words) -> Result<String, Unread>
-    ensures { Holds string_bytes result (reader_asked (spoc_of S.Bijection.meaning S.SuiteModel.plan) Check (left words.entry)) }
+    ensures { Holds string_bytes result (reader_over (spoc_of S.Bijection.meaning S.SuiteModel.plan) Check (left words.entry)) }
 {
     let key = read_bytes(heap, words.next_word()?)?;
     let bytes = read_bytes(heap, words.next_word()?)?;
@@ -278,7 +274,7 @@ fn call_check<const B: usize, S: Suite<B>>(heap: Global, mut words: Words) -> Re
 
 // KEY I LENGTH CARD
 fn call_sheet<const B: usize, S: Suite<B>>(heap: Global, mut words: Words) -> Result<String, Unread>
-    ensures { Holds string_bytes result (reader_asked (spoc_of S.Bijection.meaning S.SuiteModel.plan) Sheet (left words.entry)) }
+    ensures { Holds string_bytes result (reader_over (spoc_of S.Bijection.meaning S.SuiteModel.plan) Sheet (left words.entry)) }
 {
     let key = read_bytes(heap, words.next_word()?)?;
     let i = read_number(words.next_word()?)?;
@@ -296,7 +292,7 @@ fn call_sheet<const B: usize, S: Suite<B>>(heap: Global, mut words: Words) -> Re
 
 // KEY CELL CARD
 fn call_find<const B: usize, S: Suite<B>>(heap: Global, mut words: Words) -> Result<String, Unread>
-    ensures { Holds string_bytes result (reader_asked (spoc_of S.Bijection.meaning S.SuiteModel.plan) Find (left words.entry)) }
+    ensures { Holds string_bytes result (reader_over (spoc_of S.Bijection.meaning S.SuiteModel.plan) Find (left words.entry)) }
 {
     let key = read_bytes(heap, words.next_word()?)?;
     let cell = read_cell(words.next_word()?)?;
@@ -306,16 +302,27 @@ fn call_find<const B: usize, S: Suite<B>>(heap: Global, mut words: Words) -> Res
 }
 
 // Makes a call of the reader over a suite, from the words after the version.
-pub fn call_reader<const B: usize, S: Suite<B>>(
+fn call_over<const B: usize, S: Suite<B>>(
     heap: Global,
     call: ReaderCall,
     words: Words,
 ) -> Result<String, Unread>
-    ensures { Holds string_bytes result (reader_asked (spoc_of S.Bijection.meaning S.SuiteModel.plan) call (left words.entry)) }
+    ensures { Holds string_bytes result (reader_over (spoc_of S.Bijection.meaning S.SuiteModel.plan) call (left words.entry)) }
 {
     match call {
         ReaderCall::Check => call_check::<B, S>(heap, words),
         ReaderCall::Sheet => call_sheet::<B, S>(heap, words),
         ReaderCall::Find => call_find::<B, S>(heap, words),
+    }
+}
+
+// Reads a version, and makes a call of the reader over its suite.
+pub fn call_reader(heap: Global, call: ReaderCall, mut words: Words) -> Result<String, Unread>
+    ensures { Holds string_bytes result (reader_asked call (left words.entry)) }
+{
+    match read_suite(words.next_word()?)? {
+        SuiteName::Spoc64 => call_over::<24, Spoc64>(heap, call, words),
+        SuiteName::Spoc128 => call_over::<32, Spoc128>(heap, call, words),
+        SuiteName::Bench => call_over::<32, Bench>(heap, call, words),
     }
 }

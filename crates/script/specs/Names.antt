@@ -2,11 +2,11 @@
 use Rattle.std.specs.Prelude.{ℕ, cond, List, Ok, Err, codes, Result}
 use Rattle.std.specs.Str.{bytes_eq}
 use Rattle.script.specs.declared.names.CallName.{CallName}
-use Rattle.script.specs.declared.names.CallName.TheVariants.{Permutation, Cipher, Reader, Writer}
+use Rattle.script.specs.declared.names.CallName.TheVariants.{Permutation, Cipher, Reader, Write, Writer}
 use Rattle.script.specs.declared.names.CipherCall.TheVariants.{Seal, Open, SealInto, OpenInto}
 use Rattle.script.specs.declared.names.PermutationCall.TheVariants.{Forward, Back, Trace}
 use Rattle.script.specs.declared.names.ReaderCall.TheVariants.{Check, Sheet, Find}
-use Rattle.script.specs.declared.names.WriterCall.TheVariants.{Write, Append, Close, End}
+use Rattle.script.specs.declared.names.WriterCall.TheVariants.{Append, Close, End}
 use Rattle.script.specs.declared.names.PermutationName.{PermutationName}
 use Rattle.script.specs.declared.names.PermutationName.TheVariants.{Light192, Light256, Bench}
 use Rattle.script.specs.declared.unread.Unread.{Unread}
@@ -25,7 +25,7 @@ call_named w =
     (cond (bytes_eq w (codes "check")) (Ok (Reader Check))
     (cond (bytes_eq w (codes "sheet")) (Ok (Reader Sheet))
     (cond (bytes_eq w (codes "find")) (Ok (Reader Find))
-    (cond (bytes_eq w (codes "write")) (Ok (Writer Write))
+    (cond (bytes_eq w (codes "write")) (Ok Write)
     (cond (bytes_eq w (codes "append")) (Ok (Writer Append))
     (cond (bytes_eq w (codes "close")) (Ok (Writer Close))
     (cond (bytes_eq w (codes "end")) (Ok (Writer End)) (Err UnknownCall))))))))))))))

@@ -29,21 +29,21 @@ pub enum ReaderCall {
     Find,
 }
 
-// A call of the writer: a card is begun by Write, and its calls are made at End.
+// A line of a card that is being written.
 #[derive(Clone, Copy, Debug, PartialEq, Eq)]
 pub enum WriterCall {
-    Write,
     Append,
     Close,
     End,
 }
 
-// What a line asks for. Calls of one kind begin with the same words.
+// What a line asks for: a call, a card to be written, or a line of that card. Calls of one kind begin with the same words.
 #[derive(Clone, Copy, Debug, PartialEq, Eq)]
 pub enum CallName {
     Permutation(PermutationCall),
     Cipher(CipherCall),
     Reader(ReaderCall),
+    Write,
     Writer(WriterCall),
 }
 
@@ -65,7 +65,7 @@ impl TryFrom<&[u8]> for CallName {
             b"check" => Ok(CallName::Reader(ReaderCall::Check)),
             b"sheet" => Ok(CallName::Reader(ReaderCall::Sheet)),
             b"find" => Ok(CallName::Reader(ReaderCall::Find)),
-            b"write" => Ok(CallName::Writer(WriterCall::Write)),
+            b"write" => Ok(CallName::Write),
             b"append" => Ok(CallName::Writer(WriterCall::Append)),
             b"close" => Ok(CallName::Writer(WriterCall::Close)),
             b"end" => Ok(CallName::Writer(WriterCall::End)),

@@ -83,7 +83,7 @@ fn calls_on_cards(rt: HostRuntime) -> Result<(), Fail> {
         (b"check", Ok(CallName::Reader(ReaderCall::Check))),
         (b"sheet", Ok(CallName::Reader(ReaderCall::Sheet))),
         (b"find", Ok(CallName::Reader(ReaderCall::Find))),
-        (b"write", Ok(CallName::Writer(WriterCall::Write))),
+        (b"write", Ok(CallName::Write)),
         (b"append", Ok(CallName::Writer(WriterCall::Append))),
         (b"close", Ok(CallName::Writer(WriterCall::Close))),
         (b"end", Ok(CallName::Writer(WriterCall::End))),

@@ -1,3 +1,4 @@
 mod Asking
 mod Tracing
+mod Turns
 mod Versions

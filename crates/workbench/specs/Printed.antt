@@ -1,12 +1,12 @@
 -- What each line of a script prints. Assumes nothing.
-use Rattle.std.specs.Prelude.{◌≡◌, ℕ, zero, suc, false, cond, ◌⊎◌, List, [], ◌∷◌, ◌++◌, length, Ok, Err, codes, decimal, Result, ◌==◌}
+use Rattle.std.specs.Prelude.{◌≡◌, ℕ, zero, suc, false, cond, ◌⊎◌, List, [], ◌∷◌, ◌++◌, length, Some, None, Ok, Err, string_bytes, codes, decimal, Option, Result, String, ◌==◌}
+use Rattle.std.specs.declared.alloc.Global.{Global}
 use Rattle.permutations.specs.Bench.{bench, bench_walk}
 use Rattle.permutations.specs.Light.{light_192, light_256, walk_192, walk_256}
 use Rattle.permutations.specs.Permutation.{Perm, Walk, stepped}
 use Rattle.script.specs.Hex.{bytes_of, hex_text}
 use Rattle.spoc.specs.Bench.{bench_plan}
 use Rattle.spoc.specs.Name.{suite_of}
-use Rattle.spoc.specs.Sealing.{Sealing, spoc}
 use Rattle.spoc.specs.Spoc128.{spoc_128}
 use Rattle.spoc.specs.Spoc64.{spoc_64}
 use Rattle.spoc.specs.declared.NoSuchVersion.{NoSuchVersion}
@@ -18,16 +18,18 @@ use Rattle.script.specs.Numbers.{number_of}
 use Rattle.script.specs.Reasons.{reason}
 use Rattle.script.specs.Words.{words, with_read, with_next, ending}
 use Rattle.script.specs.declared.CallName.{CallName}
-use Rattle.script.specs.declared.CallName.TheVariants.{Permutation, Cipher, Reader, Writer}
+use Rattle.script.specs.declared.CallName.TheVariants.{Permutation, Cipher, Reader, Write, Writer}
 use Rattle.script.specs.declared.CipherCall.{CipherCall}
 use Rattle.script.specs.declared.PermutationCall.{PermutationCall}
 use Rattle.script.specs.declared.PermutationCall.TheVariants.{Forward, Back, Trace}
 use Rattle.script.specs.declared.PermutationName.{PermutationName}
 use Rattle.script.specs.declared.PermutationName.TheVariants.{Light192, Light256, Bench}
-use Rattle.script.specs.declared.ReaderCall.{ReaderCall}
 use Rattle.script.specs.declared.Unread.{Unread}
-use Rattle.script.specs.declared.Unread.TheVariants.{UnknownCall, UnknownVersion, StateLength, Memory}
+use Rattle.script.specs.declared.Unread.TheVariants.{UnknownVersion, StateLength, NoCard, CardOpen, Memory}
+use Rattle.script.specs.declared.WriterCall.{WriterCall}
+use Rattle.script.specs.declared.WriterCall.TheVariants.{Append, Close, End}
 use Rattle.card_calls.specs.Readings.{reader_asked}
+use Rattle.card_calls.specs.Writings.{Draft, draft_of, append_of, close_of, with_call, draft_text}
 use Rattle.workbench.specs.Sealings.{cipher_asked}
 
 -- state STATE
@@ -77,32 +79,15 @@ versioned (Err e) = λ call ws. Err UnknownVersion
 abbrev pub version_asked : CipherCall → List (List ℕ) → Result (List ℕ) Unread
 version_asked call ws = with_next number_of ws (λ v ws. versioned (suite_of v) call ws)
 
--- the suite that a version stands for
-abbrev pub suite_read : Result SuiteName NoSuchVersion → Result SuiteName Unread
-suite_read (Ok s) = Ok s
-suite_read (Err e) = Err UnknownVersion
-
-abbrev pub suite_named : List ℕ → Result SuiteName Unread
-suite_named w = with_read (number_of w) (λ v. suite_read (suite_of v))
-
--- the cipher of a suite
-abbrev pub cipher_of : SuiteName → Sealing
-cipher_of Spoc64 = spoc light_192 spoc_64
-cipher_of Spoc128 = spoc light_256 spoc_128
-cipher_of SuiteBench = spoc bench bench_plan
-
--- a call of the reader reads a version first
-abbrev pub card_asked : ReaderCall → List (List ℕ) → Result (List ℕ) Unread
-card_asked call ws = with_next suite_named ws (λ s ws. reader_asked (cipher_of s) call ws)
-
--- each kind of call reads its own words
+-- each kind of call reads its own words; where no card is being written, write begins one, and prints nothing
 abbrev pub call_asked : CallName → List (List ℕ) → Result (List ℕ) Unread
 call_asked (Permutation call) = permutation_asked call
 call_asked (Cipher call) = version_asked call
-call_asked (Reader call) = card_asked call
-call_asked (Writer call) = λ ws. Err UnknownCall
+call_asked (Reader call) = reader_asked call
+call_asked Write = λ ws. with_read (draft_of ws) (λ _. Ok [])
+call_asked (Writer call) = λ ws. Err NoCard
 
--- the words of a line, read from left to right
+-- the words of a line, read from left to right, where no card is being written
 abbrev pub asked : List (List ℕ) → Result (List ℕ) Unread
 asked ws = with_next call_named ws call_asked
 
@@ -111,10 +96,84 @@ abbrev pub answer_text : Result (List ℕ) Unread → List ℕ
 answer_text (Ok text) = text
 answer_text (Err e) = codes "unread: " ++ (reason e ++ (10 ∷ []))
 
--- what a line prints
+-- what a line prints where no card is being written
 abbrev pub line_text : List ℕ → List ℕ
 line_text line = cond (silent (trimmed line)) [] (answer_text (asked (words (trimmed line))))
 
--- what a line may print: its text or, where it asks something, that there is no memory
+-- what a line may print there: its text or, where it asks something, that there is no memory
 abbrev pub MayPrint : List ℕ → List ℕ → Type 0
 MayPrint line text = (text ≡ line_text line) ⊎ ((silent (trimmed line) ≡ false) × (text ≡ answer_text (Err Memory)))
+
+-- what a line prints, and the card that is being written after it, if one is
+pub record Turn : Type 0 where
+  pub text : List ℕ
+  pub card : Option Draft
+
+abbrev pub a_turn : List ℕ → Option Draft → Turn
+a_turn t o = record { text = t; card = o }
+
+-- the card that a call begins where none is being written
+abbrev pub drafted : Result Draft Unread → Option Draft
+drafted (Ok d) = Some d
+drafted (Err e) = None
+
+abbrev pub begun : CallName → List (List ℕ) → Option Draft
+begun (Permutation call) ws = None
+begun (Cipher call) ws = None
+begun (Reader call) ws = None
+begun Write ws = drafted (draft_of ws)
+begun (Writer call) ws = None
+
+-- a line of the card that is being written: it gets one call more, or is written and is no longer there
+abbrev pub card_asked : Draft → WriterCall → List (List ℕ) → Result Turn Unread
+card_asked d Append ws = with_read (append_of ws) (λ c. Ok (a_turn [] (Some (with_call d c))))
+card_asked d Close ws = with_read (close_of ws) (λ c. Ok (a_turn [] (Some (with_call d c))))
+card_asked d End ws = with_read (ending ws) (λ _. Ok (a_turn (draft_text d) None))
+
+-- every other call stands outside a card
+abbrev pub outside_card : Option Draft → Result (Unit {0}) Unread
+outside_card None = Ok tt
+outside_card (Some d) = Err CardOpen
+
+-- a call, by the card that is being written before it
+abbrev pub turn_asked : Option Draft → CallName → List (List ℕ) → Result Turn Unread
+turn_asked None call ws = with_read (call_asked call ws) (λ t. Ok (a_turn t (begun call ws)))
+turn_asked (Some d) (Permutation call) ws = Err CardOpen
+turn_asked (Some d) (Cipher call) ws = Err CardOpen
+turn_asked (Some d) (Reader call) ws = Err CardOpen
+turn_asked (Some d) Write ws = Err CardOpen
+turn_asked (Some d) (Writer call) ws = card_asked d call ws
+
+-- a line that can't be read prints the reason, and the card stays
+abbrev pub turn_of : Option Draft → Result Turn Unread → Turn
+turn_of o (Ok t) = t
+turn_of o (Err e) = a_turn (answer_text (Err e)) o
+
+-- what the words of a line print and leave
+abbrev pub words_turn : Option Draft → List (List ℕ) → Turn
+words_turn o ws = turn_of o (with_next call_named ws (turn_asked o))
+
+-- what a line prints and leaves
+abbrev pub line_turn : Option Draft → List ℕ → Turn
+line_turn o line = cond (silent (trimmed line)) (a_turn [] o) (words_turn o (words (trimmed line)))
+
+-- the card after a line that finds no memory: it stays, or is given up where it was to be written
+abbrev pub Kept : Option Draft → Option Draft → Type 0
+Kept before after = (after ≡ before) ⊎ (after ≡ None)
+
+-- where a line asks something, there may be no memory for it
+abbrev pub NoMemory : Option Draft → Turn → Type 0
+NoMemory o t = (t.text ≡ answer_text (Err Memory)) × Kept o t.card
+
+-- what words may print and leave
+abbrev pub WordsMayTurn : Option Draft → List (List ℕ) → Turn → Type 0
+WordsMayTurn o ws t = (t ≡ words_turn o ws) ⊎ NoMemory o t
+
+-- what a line may print and leave
+abbrev pub MayTurn : Option Draft → List ℕ → Turn → Type 0
+MayTurn o line t = (t ≡ line_turn o line) ⊎ ((silent (trimmed line) ≡ false) × NoMemory o t)
+
+-- an answer and the card after it, against what is asked
+abbrev pub Answers : Result (String Global) Unread → Option Draft → Option Draft → Result Turn Unread → Type 0
+Answers (Ok t) before after a = a ≡ Ok (a_turn (string_bytes t) after)
+Answers (Err e) before after a = ((a ≡ Err e) × (after ≡ before)) ⊎ ((e ≡ Memory) × Kept before after)

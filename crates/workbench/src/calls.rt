@@ -1,14 +1,12 @@
 ghost use Rattle.std.specs.Prelude.{◌≡◌, IfOk, Some, string_bytes};
 ghost use Rattle.script.specs.Reasons.{Holds};
-ghost use Rattle.script.specs.Words.{words, left};
-ghost use Rattle.workbench.specs.Printed.{state_text, step_text, trace_text, call_answer, permutation_asked, version_asked, suite_named, card_asked, asked, MayPrint};
+ghost use Rattle.script.specs.Words.{left};
+ghost use Rattle.workbench.specs.Printed.{state_text, step_text, trace_text, call_answer, permutation_asked, version_asked};
 
 use crate::cipher::call_cipher;
-use card_calls::call_reader;
 use permutations::{Bench, Light192, Light256, Permutation, Stepped};
 use script::{
-    CallName, CipherCall, Hex, PermutationCall, PermutationName, ReaderCall, Unread, Words,
-    is_silent, read_bytes, read_number, without_return,
+    CipherCall, Hex, PermutationCall, PermutationName, Unread, Words, read_bytes, read_number,
 };
 use spoc::{NoSuchVersion, Spoc64, Spoc128, Suite, SuiteName};
 use std::alloc::{AllocError, Global};
@@ -92,7 +90,11 @@ fn call_on<const B: usize, P: Stepped<B>>(
 }
 
 // Reads a permutation and a state, and makes the call.
-fn call_permutation(heap: Global, call: PermutationCall, mut words: Words) -> Result<String, Unread>
+pub(crate) fn call_permutation(
+    heap: Global,
+    call: PermutationCall,
+    mut words: Words,
+) -> Result<String, Unread>
     ensures { Holds string_bytes result (permutation_asked call (left words.entry)) }
 {
     let of = PermutationName::try_from(words.next_word()?)?;
@@ -106,7 +108,11 @@ fn call_permutation(heap: Global, call: PermutationCall, mut words: Words) -> Re
 }
 
 // Reads a version, and makes the call over its suite.
-fn call_version(heap: Global, call: CipherCall, mut words: Words) -> Result<String, Unread>
+pub(crate) fn call_version(
+    heap: Global,
+    call: CipherCall,
+    mut words: Words,
+) -> Result<String, Unread>
     ensures { Holds string_bytes result (version_asked call (left words.entry)) }
 {
     let version = read_number(words.next_word()?)?;
@@ -116,47 +122,4 @@ fn call_version(heap: Global, call: CipherCall, mut words: Words) -> Result<Stri
         Ok(SuiteName::Bench) => call_cipher::<32, Bench>(heap, call, words),
         Err(NoSuchVersion) => Err(Unread::UnknownVersion),
     }
-}
-
-// Reads a version, which stands for its suite.
-fn read_suite(word: &[u8]) -> Result<SuiteName, Unread>
-    ensures { result ≡ suite_named word.now }
-{
-    let version = read_number(word)?;
-    SuiteName::try_from(version).map_err(|_| Unread::UnknownVersion)
-}
-
-// Reads a version, and makes the call of the reader over its suite.
-fn call_on_card(heap: Global, call: ReaderCall, mut words: Words) -> Result<String, Unread>
-    ensures { Holds string_bytes result (card_asked call (left words.entry)) }
-{
-    match read_suite(words.next_word()?)? {
-        SuiteName::Spoc64 => call_reader::<24, Spoc64>(heap, call, words),
-        SuiteName::Spoc128 => call_reader::<32, Spoc128>(heap, call, words),
-        SuiteName::Bench => call_reader::<32, Bench>(heap, call, words),
-    }
-}
-
-// Reads a line's words from left to right, and makes the call.
-fn read_and_call(heap: Global, line: &[u8]) -> Result<String, Unread>
-    ensures { Holds string_bytes result (asked (words line.now)) }
-{
-    let mut words = Words::new(line);
-    match CallName::try_from(words.next_word()?)? {
-        CallName::Permutation(call) => call_permutation(heap, call, words),
-        CallName::Cipher(call) => call_version(heap, call, words),
-        CallName::Reader(call) => call_on_card(heap, call, words),
-        CallName::Writer(_) => Err(Unread::UnknownCall),
-    }
-}
-
-// What a line prints, each of its lines ended by a line feed. A line that finds no memory says so.
-pub fn answer(heap: Global, line: &[u8]) -> Result<String, AllocError>
-    ensures { IfOk result (λ t. MayPrint line.now (string_bytes t)) }
-{
-    let line = without_return(line);
-    if is_silent(line) {
-        return Ok(String::new(heap));
-    }
-    read_and_call(heap, line).or_else(|reason| format!(in heap; "unread: {reason}\n"))
 }

@@ -3,14 +3,16 @@
 
 mod calls;
 mod cipher;
+mod session;
 
-use calls::answer;
+use session::Workbench;
 use std::io::{BufRead, BufReader};
 
 fn main(rt: HostRuntime) -> anyhow::Result<()> {
+    let mut workbench = Workbench::new();
     for line in BufReader::new(rt.alloc(), rt.stdin())?.split(rt.alloc(), b'\n') {
         let line = line?;
-        rt.print(answer(rt.alloc(), line.as_slice())?)?;
+        rt.print(workbench.answer(rt.alloc(), line.as_slice())?)?;
     }
     Ok(())
 }
