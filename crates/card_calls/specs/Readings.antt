@@ -50,7 +50,7 @@ abbrev pub counted : Result Card Fault → Result ℕ Fault
 counted o = and_then o (λ c. Ok c.count)
 
 -- check with a scratch of this length
-unfoldable pub check_with : Sealing → List ℕ → List ℕ → ℕ → Checked
+abbrev pub check_with : Sealing → List ℕ → List ℕ → ℕ → Checked
 check_with S key bs room = record { answer = counted (check S key (length (fresh room)) bs); scratch = scratch_after key (fresh room) }
 
 -- checked COUNT, or the refusal
@@ -85,7 +85,7 @@ read_buffer S (Ok c) i b = sheet_buffer S c i b
 read_buffer S (Err f) i b = b
 
 -- sheet i with a buffer of this length
-unfoldable pub sheet_with : Sealing → List ℕ → ℕ → ℕ → List ℕ → Shown
+abbrev pub sheet_with : Sealing → List ℕ → ℕ → ℕ → List ℕ → Shown
 sheet_with S key i room bs = record { number = i; answer = read_answer S (check S key 4096 bs) i (fresh room); buffer = read_buffer S (check S key 4096 bs) i (fresh room) }
 
 -- sheet I cell C edition E length L body BYTES: the body is at the front of the buffer

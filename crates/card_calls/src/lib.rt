@@ -7,4 +7,5 @@ mod suites;
 mod writing;
 
 pub use reading::{FILLER, call_reader};
+pub use suites::read_suite;
 pub use writing::Draft;

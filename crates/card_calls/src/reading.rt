@@ -5,7 +5,7 @@ ghost use Rattle.script.specs.declared.ReaderCall.TheVariants.{Check, Sheet, Fin
 ghost use Rattle.spoc.specs.Sealing.{spoc as spoc_of};
 ghost use Rattle.cards.specs.Faults.{told};
 ghost use Rattle.cards.specs.Reader.{check as check_of, scratch_after};
-ghost use Rattle.card_calls.specs.Readings.{all_are, is_wiped, scratch_word, check_in, counted, check_with, check_text, check_said, sheet_in, read_answer, read_buffer, sheet_with, head_line, sheet_text, sheet_said, find_with, find_text, find_said, reader_over, reader_asked};
+ghost use Rattle.card_calls.specs.Readings.{all_are, is_wiped, scratch_word, check_in, counted, check_text, check_said, sheet_in, read_answer, read_buffer, head_line, sheet_text, sheet_said, find_with, find_text, find_said, reader_over, reader_asked};
 
 use crate::front::front_of;
 use crate::suites::read_suite;
@@ -70,35 +70,6 @@ impl fmt::Display for CheckRun {
     }
 }
 
-// Checks a card, and counts its sheets.
-fn check_and_count<const B: usize, S: Suite<B>>(
-    key: &[u8],
-    bytes: &[u8],
-    scratch: &mut [u8],
-) -> Result<usize, CardFault>
-    ensures answer { told result ≡ counted (check_of (spoc_of S.Bijection.meaning S.SuiteModel.plan) key.now (length scratch.old) bytes.now) }
-    ensures scratch { scratch.new ≡ scratch_after key.now scratch.old }
-{
-    let mut card = Card::empty();
-    check::<B, S>(key, bytes, scratch, &mut card)?;
-    Ok(card.count())
-}
-
-// Checks a card with a scratch of this length.
-#[tactic(auto, unfolding(crate::specs::Readings::check_with))]
-fn run_check<const B: usize, S: Suite<B>>(
-    heap: Global,
-    key: &[u8],
-    bytes: &[u8],
-    room: usize,
-) -> Result<CheckRun, AllocError>
-    ensures { IfOk result (λ x. check_in x ≡ check_with (spoc_of S.Bijection.meaning S.SuiteModel.plan) key.now bytes.now room) }
-{
-    let mut scratch = vec![in heap; FILLER; room]?;
-    let answer = check_and_count::<B, S>(key, bytes, scratch.as_mut_slice());
-    Ok(CheckRun { answer, scratch })
-}
-
 // What sheet answered of a sheet, or check where that refuses, and the buffer.
 #[derive(Drop)]
 struct SheetRun {
@@ -154,42 +125,6 @@ impl fmt::Display for SheetRun {
     }
 }
 
-// Checks a card, and reads sheet i.
-fn check_and_read<const B: usize, S: Suite<B>>(
-    key: &[u8],
-    bytes: &[u8],
-    i: usize,
-    buffer: &mut [u8],
-) -> Result<SheetHead, CardFault>
-    ensures answer { told result ≡ read_answer (spoc_of S.Bijection.meaning S.SuiteModel.plan) (check_of (spoc_of S.Bijection.meaning S.SuiteModel.plan) key.now 4096 bytes.now) i buffer.old }
-    ensures buffer { buffer.new ≡ read_buffer (spoc_of S.Bijection.meaning S.SuiteModel.plan) (check_of (spoc_of S.Bijection.meaning S.SuiteModel.plan) key.now 4096 bytes.now) i buffer.old }
-{
-    let mut scratch = [0; MOST_BODY];
-    let mut card = Card::empty();
-    check::<B, S>(key, bytes, &mut scratch, &mut card)?;
-    sheet::<B, S>(&card, i, buffer)
-}
-
-// Checks a card, and reads sheet i into a buffer of this length.
-#[tactic(auto, unfolding(crate::specs::Readings::sheet_with))]
-fn run_sheet<const B: usize, S: Suite<B>>(
-    heap: Global,
-    key: &[u8],
-    i: usize,
-    room: usize,
-    bytes: &[u8],
-) -> Result<SheetRun, AllocError>
-    ensures { IfOk result (λ x. sheet_in x ≡ sheet_with (spoc_of S.Bijection.meaning S.SuiteModel.plan) key.now i room bytes.now) }
-{
-    let mut buffer = vec![in heap; FILLER; room]?;
-    let answer = check_and_read::<B, S>(key, bytes, i, buffer.as_mut_slice());
-    Ok(SheetRun {
-        number: i,
-        answer,
-        buffer,
-    })
-}
-
 // What find answered, or check where that refuses.
 #[derive(Clone, Copy)]
 struct Finding(Result<Option<usize>, CardFault>);
@@ -207,58 +142,94 @@ impl fmt::Display for Finding {
     }
 }
 
-// Checks a card, and finds the sheet with a cell.
-fn check_and_find<const B: usize, S: Suite<B>>(
-    key: &[u8],
-    cell: u32,
-    bytes: &[u8],
-) -> Result<Option<usize>, CardFault>
-    ensures { told result ≡ find_with (spoc_of S.Bijection.meaning S.SuiteModel.plan) key.now cell bytes.now }
-{
-    let mut scratch = [0; MOST_BODY];
-    let mut card = Card::empty();
-    check::<B, S>(key, bytes, &mut scratch, &mut card)?;
-    Ok(find(&card, cell))
+// A key, and the bytes of a card.
+#[derive(Clone, Copy)]
+struct Given<'a> {
+    key: &'a [u8],
+    bytes: &'a [u8],
 }
 
-// Checks a card, and says what was answered.
-#[tactic(auto, unfolding(crate::specs::Readings::check_said))]
-fn answer_check<const B: usize, S: Suite<B>>(
-    heap: Global,
-    key: &[u8],
-    bytes: &[u8],
-    room: usize,
-) -> Result<String, AllocError>
-    ensures { IfOk result (λ t. string_bytes t ≡ check_said (spoc_of S.Bijection.meaning S.SuiteModel.plan) key.now bytes.now room) }
-{
-    run_check::<B, S>(heap, key, bytes, room)?.to_string(heap)
-}
+impl Given<'_> {
+    // Checks the card, and counts its sheets.
+    fn count<const B: usize, S: Suite<B>>(&self, scratch: &mut [u8]) -> Result<usize, CardFault>
+        ensures answer { told result ≡ counted (check_of (spoc_of S.Bijection.meaning S.SuiteModel.plan) self.now.key.now (length scratch.old) self.now.bytes.now) }
+        ensures scratch { scratch.new ≡ scratch_after self.now.key.now scratch.old }
+    {
+        let mut card = Card::empty();
+        check::<B, S>(self.key, self.bytes, scratch, &mut card)?;
+        Ok(card.count())
+    }
 
-// Reads a sheet, and says what was answered.
-#[tactic(auto, unfolding(crate::specs::Readings::sheet_said))]
-fn answer_sheet<const B: usize, S: Suite<B>>(
-    heap: Global,
-    key: &[u8],
-    i: usize,
-    room: usize,
-    bytes: &[u8],
-) -> Result<String, AllocError>
-    ensures { IfOk result (λ t. string_bytes t ≡ sheet_said (spoc_of S.Bijection.meaning S.SuiteModel.plan) key.now i room bytes.now) }
-{
-    run_sheet::<B, S>(heap, key, i, room, bytes)?.to_string(heap)
-}
+    // Checks the card, and reads sheet i.
+    fn read<const B: usize, S: Suite<B>>(
+        &self,
+        i: usize,
+        buffer: &mut [u8],
+    ) -> Result<SheetHead, CardFault>
+        ensures answer { told result ≡ read_answer (spoc_of S.Bijection.meaning S.SuiteModel.plan) (check_of (spoc_of S.Bijection.meaning S.SuiteModel.plan) self.now.key.now 4096 self.now.bytes.now) i buffer.old }
+        ensures buffer { buffer.new ≡ read_buffer (spoc_of S.Bijection.meaning S.SuiteModel.plan) (check_of (spoc_of S.Bijection.meaning S.SuiteModel.plan) self.now.key.now 4096 self.now.bytes.now) i buffer.old }
+    {
+        let mut scratch = [0; MOST_BODY];
+        let mut card = Card::empty();
+        check::<B, S>(self.key, self.bytes, &mut scratch, &mut card)?;
+        sheet::<B, S>(&card, i, buffer)
+    }
 
-// Finds a cell, and says what was answered.
-#[tactic(auto, unfolding(crate::specs::Readings::find_said))]
-fn answer_find<const B: usize, S: Suite<B>>(
-    heap: Global,
-    key: &[u8],
-    cell: u32,
-    bytes: &[u8],
-) -> Result<String, AllocError>
-    ensures { IfOk result (λ t. string_bytes t ≡ find_said (spoc_of S.Bijection.meaning S.SuiteModel.plan) key.now cell bytes.now) }
-{
-    Finding(check_and_find::<B, S>(key, cell, bytes)).to_string(heap)
+    // Checks the card, and finds the sheet with a cell.
+    fn find<const B: usize, S: Suite<B>>(&self, cell: u32) -> Result<Option<usize>, CardFault>
+        ensures { told result ≡ find_with (spoc_of S.Bijection.meaning S.SuiteModel.plan) self.now.key.now cell self.now.bytes.now }
+    {
+        let mut scratch = [0; MOST_BODY];
+        let mut card = Card::empty();
+        check::<B, S>(self.key, self.bytes, &mut scratch, &mut card)?;
+        Ok(find(&card, cell))
+    }
+
+    // Checks the card with a scratch of this length, and says what was answered.
+    #[tactic(auto, unfolding(crate::specs::Readings::check_said))]
+    fn answer_check<const B: usize, S: Suite<B>>(
+        &self,
+        heap: Global,
+        room: usize,
+    ) -> Result<String, AllocError>
+        ensures { IfOk result (λ t. string_bytes t ≡ check_said (spoc_of S.Bijection.meaning S.SuiteModel.plan) self.now.key.now self.now.bytes.now room) }
+    {
+        let mut scratch = vec![in heap; FILLER; room]?;
+        let answer = self.count::<B, S>(scratch.as_mut_slice());
+        CheckRun { answer, scratch }.to_string(heap)
+    }
+
+    // Reads sheet i into a buffer of this length, and says what was answered.
+    #[tactic(auto, unfolding(crate::specs::Readings::sheet_said))]
+    fn answer_sheet<const B: usize, S: Suite<B>>(
+        &self,
+        heap: Global,
+        i: usize,
+        room: usize,
+    ) -> Result<String, AllocError>
+        ensures { IfOk result (λ t. string_bytes t ≡ sheet_said (spoc_of S.Bijection.meaning S.SuiteModel.plan) self.now.key.now i room self.now.bytes.now) }
+    {
+        let mut buffer = vec![in heap; FILLER; room]?;
+        let answer = self.read::<B, S>(i, buffer.as_mut_slice());
+        let run = SheetRun {
+            number: i,
+            answer,
+            buffer,
+        };
+        run.to_string(heap)
+    }
+
+    // Finds a cell, and says what was answered.
+    #[tactic(auto, unfolding(crate::specs::Readings::find_said))]
+    fn answer_find<const B: usize, S: Suite<B>>(
+        &self,
+        heap: Global,
+        cell: u32,
+    ) -> Result<String, AllocError>
+        ensures { IfOk result (λ t. string_bytes t ≡ find_said (spoc_of S.Bijection.meaning S.SuiteModel.plan) self.now.key.now cell self.now.bytes.now) }
+    {
+        Finding(self.find::<B, S>(cell)).to_string(heap)
+    }
 }
 
 // KEY CARD SCRATCH
@@ -269,7 +240,11 @@ fn call_check<const B: usize, S: Suite<B>>(heap: Global, mut words: Words) -> Re
     let bytes = read_bytes(heap, words.next_word()?)?;
     let room = read_number(words.next_word()?)?;
     words.finish()?;
-    Ok(answer_check::<B, S>(heap, key.as_slice(), bytes.as_slice(), room as usize)?)
+    let given = Given {
+        key: key.as_slice(),
+        bytes: bytes.as_slice(),
+    };
+    Ok(given.answer_check::<B, S>(heap, room as usize)?)
 }
 
 // KEY I LENGTH CARD
@@ -281,13 +256,11 @@ fn call_sheet<const B: usize, S: Suite<B>>(heap: Global, mut words: Words) -> Re
     let room = read_number(words.next_word()?)?;
     let bytes = read_bytes(heap, words.next_word()?)?;
     words.finish()?;
-    Ok(answer_sheet::<B, S>(
-        heap,
-        key.as_slice(),
-        i as usize,
-        room as usize,
-        bytes.as_slice(),
-    )?)
+    let given = Given {
+        key: key.as_slice(),
+        bytes: bytes.as_slice(),
+    };
+    Ok(given.answer_sheet::<B, S>(heap, i as usize, room as usize)?)
 }
 
 // KEY CELL CARD
@@ -298,7 +271,11 @@ fn call_find<const B: usize, S: Suite<B>>(heap: Global, mut words: Words) -> Res
     let cell = read_cell(words.next_word()?)?;
     let bytes = read_bytes(heap, words.next_word()?)?;
     words.finish()?;
-    Ok(answer_find::<B, S>(heap, key.as_slice(), cell, bytes.as_slice())?)
+    let given = Given {
+        key: key.as_slice(),
+        bytes: bytes.as_slice(),
+    };
+    Ok(given.answer_find::<B, S>(heap, cell)?)
 }
 
 // Makes a call of the reader over a suite, from the words after the version.

@@ -5,7 +5,7 @@ use script::{Unread, read_number};
 use spoc::SuiteName;
 
 // Reads a version, which stands for its suite.
-pub(crate) fn read_suite(word: &[u8]) -> Result<SuiteName, Unread>
+pub fn read_suite(word: &[u8]) -> Result<SuiteName, Unread>
     ensures { result ≡ suite_named word.now }
 {
     let version = read_number(word)?;

@@ -123,14 +123,44 @@ impl Draft {
         Ok(())
     }
 
+    // Starts a card on the medium, makes its calls, and says what was answered.
+    fn write_on<const B: usize, S: Suite<B> + Drop>(
+        &self,
+        heap: Global,
+        medium: &mut [u8],
+    ) -> Result<String, AllocError>
+        ensures { IfOk result (λ t. ◌≡◌ {A = Written} record { lines = string_bytes t; medium = medium.new } (write_on (spoc_of S.Bijection.meaning S.SuiteModel.plan) (draft_in self.now) medium.old)) }
+    {
+        let calls = calls_of(heap, self.steps.as_slice())?;
+        match Writer::<B, S>::start(self.key.as_slice(), self.number, medium) {
+            Ok(writer) => {
+                let lines = run_calls::<B, S>(heap, writer, medium, calls.as_slice())?;
+                format!(in heap; "started\n{lines}")
+            }
+            Err(fault) => format!(in heap; "{fault}\n"),
+        }
+    }
+
+    // Writes the card on a new medium, under a suite.
+    fn answer_over<const B: usize, S: Suite<B> + Drop>(
+        &self,
+        heap: Global,
+    ) -> Result<String, AllocError>
+        ensures { IfOk result (λ t. string_bytes t ≡ draft_over (spoc_of S.Bijection.meaning S.SuiteModel.plan) (draft_in self.now)) }
+    {
+        let mut medium = vec![in heap; self.fill; self.size]?;
+        let lines = self.write_on::<B, S>(heap, medium.as_mut_slice())?;
+        WriteRun { lines, medium }.to_string(heap)
+    }
+
     // Writes the card on a new medium, and says what each call answered and what the medium holds then.
     pub fn answer(&self, heap: Global) -> Result<String, AllocError>
         ensures { IfOk result (λ t. string_bytes t ≡ draft_text (draft_in self.now)) }
     {
         match self.suite {
-            SuiteName::Spoc64 => answer_over::<24, Spoc64>(heap, self),
-            SuiteName::Spoc128 => answer_over::<32, Spoc128>(heap, self),
-            SuiteName::Bench => answer_over::<32, Bench>(heap, self),
+            SuiteName::Spoc64 => self.answer_over::<24, Spoc64>(heap),
+            SuiteName::Spoc128 => self.answer_over::<32, Spoc128>(heap),
+            SuiteName::Bench => self.answer_over::<32, Bench>(heap),
         }
     }
 }
@@ -200,24 +230,6 @@ fn run_calls<const B: usize, S: Suite<B> + Drop>(
     lines_of(heap, calls, front_of(answers.as_slice(), made))
 }
 
-// Starts a card on the medium, makes its calls, and says what was answered.
-fn write_on<const B: usize, S: Suite<B> + Drop>(
-    heap: Global,
-    draft: &Draft,
-    medium: &mut [u8],
-) -> Result<String, AllocError>
-    ensures { IfOk result (λ t. ◌≡◌ {A = Written} record { lines = string_bytes t; medium = medium.new } (write_on (spoc_of S.Bijection.meaning S.SuiteModel.plan) (draft_in draft.now) medium.old)) }
-{
-    let calls = calls_of(heap, draft.steps.as_slice())?;
-    match Writer::<B, S>::start(draft.key.as_slice(), draft.number, medium) {
-        Ok(writer) => {
-            let lines = run_calls::<B, S>(heap, writer, medium, calls.as_slice())?;
-            format!(in heap; "started\n{lines}")
-        }
-        Err(fault) => format!(in heap; "{fault}\n"),
-    }
-}
-
 // What was answered, a line for start and each call, and the medium after them.
 #[derive(Drop)]
 struct WriteRun {
@@ -233,16 +245,4 @@ impl fmt::Display for WriteRun {
         let medium = Hex(self.medium.as_slice());
         writeln!(f, "{lines}medium {medium}")
     }
-}
-
-// Writes a card of this suite on a new medium.
-fn answer_over<const B: usize, S: Suite<B> + Drop>(
-    heap: Global,
-    draft: &Draft,
-) -> Result<String, AllocError>
-    ensures { IfOk result (λ t. string_bytes t ≡ draft_over (spoc_of S.Bijection.meaning S.SuiteModel.plan) (draft_in draft.now)) }
-{
-    let mut medium = vec![in heap; draft.fill; draft.size]?;
-    let lines = write_on::<B, S>(heap, draft, medium.as_mut_slice())?;
-    WriteRun { lines, medium }.to_string(heap)
 }

@@ -4,11 +4,10 @@ ghost use Rattle.script.specs.Words.{left};
 ghost use Rattle.workbench.specs.Printed.{state_text, step_text, trace_text, call_answer, permutation_asked, version_asked};
 
 use crate::cipher::call_cipher;
+use card_calls::read_suite;
 use permutations::{Bench, Light192, Light256, Permutation, Stepped};
-use script::{
-    CipherCall, Hex, PermutationCall, PermutationName, Unread, Words, read_bytes, read_number,
-};
-use spoc::{NoSuchVersion, Spoc64, Spoc128, Suite, SuiteName};
+use script::{CipherCall, Hex, PermutationCall, PermutationName, Unread, Words, read_bytes};
+use spoc::{Spoc64, Spoc128, Suite, SuiteName};
 use std::alloc::{AllocError, Global};
 use std::fmt;
 use std::fmt::Write;
@@ -115,11 +114,9 @@ pub(crate) fn call_version(
 ) -> Result<String, Unread>
     ensures { Holds string_bytes result (version_asked call (left words.entry)) }
 {
-    let version = read_number(words.next_word()?)?;
-    match SuiteName::try_from(version) {
-        Ok(SuiteName::Spoc64) => call_cipher::<24, Spoc64>(heap, call, words),
-        Ok(SuiteName::Spoc128) => call_cipher::<32, Spoc128>(heap, call, words),
-        Ok(SuiteName::Bench) => call_cipher::<32, Bench>(heap, call, words),
-        Err(NoSuchVersion) => Err(Unread::UnknownVersion),
+    match read_suite(words.next_word()?)? {
+        SuiteName::Spoc64 => call_cipher::<24, Spoc64>(heap, call, words),
+        SuiteName::Spoc128 => call_cipher::<32, Spoc128>(heap, call, words),
+        SuiteName::Bench => call_cipher::<32, Bench>(heap, call, words),
     }
 }

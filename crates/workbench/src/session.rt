@@ -24,7 +24,7 @@ impl Workbench {
         Workbench { draft: None }
     }
 
-    // Is no card being written?
+    // Is no card being written? Here None is the good answer, as in Words::finish.
     fn ask_outside(&self) -> Result<(), Unread>
         ensures { result ≡ outside_card (option_map draft_in self.now.draft) }
     {

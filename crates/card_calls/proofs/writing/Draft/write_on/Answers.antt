@@ -6,16 +6,16 @@ use Rattle.writer.specs.Replay.{plain_call}
 use Rattle.card_calls.specs.Readings.{refused_line}
 use Rattle.card_calls.specs.Writings.{Written, draft_in, step_call, write_on}
 use Rattle.card_calls.proofs.Writers.{started_as, refused_as, medium_stays, written_started, written_refused, made_so}
-use Rattle.card_calls.proofs.writing.write_on.Goals as goal
+use Rattle.card_calls.proofs.writing.Draft.write_on.Goals as goal
 
 pub returns-in-Ok : goal.returns-in-Ok
 unfolding draft_in
 returns-in-Ok g c =
     let S = spoc g.S.Bijection.meaning g.S.SuiteModel.plan in
-    let d = draft_in c.args.draft.now in
+    let d = draft_in c.args.self.now in
     let m = c.args.medium.now in
     let k = c.as_slice-2.ensures.value in
-    let o = started_as c.in-Ok.writer c.start.new.medium (start S c.as_slice-2.result.now c.args.draft.now.number m) c.in-Ok.ensures.answer in
+    let o = started_as c.in-Ok.writer c.start.new.medium (start S c.as_slice-2.result.now c.args.self.now.number m) c.in-Ok.ensures.answer in
     let w = o.0 in
     let e : start S d.key d.number m ≡ Ok w = ap (λ (x : List ℕ). start S x d.number m) (sym k) ∙ o.1 in
     let cs = map plain_call c.as_slice-in-Ok.result.now in
@@ -31,7 +31,7 @@ pub returns : goal.returns
 unfolding draft_in
 returns g c =
     let S = spoc g.S.Bijection.meaning g.S.SuiteModel.plan in
-    let d = draft_in c.args.draft.now in
+    let d = draft_in c.args.self.now in
     let m = c.args.medium.now in
     let f = of_card c.in-Err.fault in
     let mm = c.start.new.medium in

@@ -4,13 +4,13 @@ use Rattle.std.specs.Vec.{with_items}
 use Rattle.spoc.specs.Sealing.{spoc}
 use Rattle.card_calls.specs.Writings.{Written, draft_in, write_on, written_text, draft_over}
 use Rattle.card_calls.proofs.Writers.{made_same}
-use Rattle.card_calls.proofs.writing.answer_over.Goals as goal
+use Rattle.card_calls.proofs.writing.Draft.answer_over.Goals as goal
 
 pub returns : goal.returns
 unfolding draft_in draft_over
 returns g c =
     let S = spoc g.S.Bijection.meaning g.S.SuiteModel.plan in
-    let d = draft_in c.args.draft.now in
+    let d = draft_in c.args.self.now in
     let filled : vec_items c.in_ok-medium.medium ≡ replicate d.size d.fill = search rules in
     let em = c.as_mut_slice.ensures.value ∙ filled in
     let mm = c.write_on.new.medium in
