@@ -1,0 +1,3 @@
+pub mod Ring
+pub mod Plan
+pub mod Rings
