@@ -3,5 +3,7 @@
 
 mod ring;
 mod suite;
+#[cfg(test)]
+mod tests;
 
 pub use ring::Ring;
