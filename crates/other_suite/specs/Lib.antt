@@ -1,3 +1,4 @@
 pub mod Ring
 pub mod Plan
 pub mod Rings
+pub mod Starts

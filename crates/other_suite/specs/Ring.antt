@@ -3,17 +3,21 @@ use Rattle.std.specs.Prelude.{ℕ, List, ◌++◌, take, drop}
 use Rattle.permutations.specs.Bytes.{xors}
 use Rattle.permutations.specs.Permutation.{Perm}
 
+-- turned left by n places
+unfoldable pub turned : ℕ → List ℕ → List ℕ
+turned n s = drop n s ++ take n s
+
 -- each of the first 11 bytes xored with the byte 11 places on
 unfoldable pub mixed : List ℕ → List ℕ
 mixed s = xors (take 11 s) (take 11 (drop 11 s)) ++ drop 11 s
 
--- turned right by 11 places, and then mixed
+-- turned left by 12 places, which is right by 11, and then mixed
 unfoldable pub forward : List ℕ → List ℕ
-forward s = mixed (drop 12 s ++ take 12 s)
+forward s = mixed (turned 12 s)
 
 -- mixed, and then turned left by 11 places
 unfoldable pub backward : List ℕ → List ℕ
-backward s = drop 11 (mixed s) ++ take 11 (mixed s)
+backward s = turned 11 (mixed s)
 
 abbrev pub ring : Perm
 ring = record { size = 23; forward = forward; back = backward }

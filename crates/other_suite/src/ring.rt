@@ -38,13 +38,13 @@ impl Bijection for Ring {
 impl Permutation<23> for Ring {
     fn sized() {}
 
-    #[tactic(auto, unfolding(crate::specs::Ring::forward))]
+    #[tactic(auto, unfolding(crate::specs::Ring::forward, crate::specs::Ring::turned))]
     fn forward(state: &mut [u8; 23]) {
         state.rotate_right(11);
         mix(state);
     }
 
-    #[tactic(auto, unfolding(crate::specs::Ring::backward))]
+    #[tactic(auto, unfolding(crate::specs::Ring::backward, crate::specs::Ring::turned))]
     fn back(state: &mut [u8; 23]) {
         mix(state);
         state.rotate_left(11);

@@ -1,6 +1,7 @@
 ghost use Rattle.std.specs.Prelude.{refl};
 ghost use Rattle.other_suite.specs.Plan.{ring_plan};
 ghost use Rattle.other_suite.specs.Rings;
+ghost use Rattle.other_suite.specs.Starts.{ring_sound};
 
 use crate::ring::{Ring, xor_front};
 use permutations::Permutation;
@@ -13,7 +14,7 @@ const MASKED_PLACES: [usize; 5] = [7, 1, 9, 3, 5];
 impl SuiteModel for Ring {
     ghost plan = { ring_plan };
 
-    ghost sound = { Rings.sound };
+    ghost sound = { ring_sound Rings.bijective };
 }
 
 // The ring suite: five rate places and five masked places, all odd.

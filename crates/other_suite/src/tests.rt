@@ -52,23 +52,19 @@ fn messages_are_sealed_and_open(rt: HostRuntime) {
     ];
     for (data, message, ciphertext, tag) in &rows {
         let mut sealed = [7; 16];
-        let mut opened = [7; 16];
         let mut made = [0; 5];
         assert_eq!(rt;
-            spoc::seal_and_open::<23, Ring>(
-                KEY,
-                NONCE,
-                data,
-                message,
-                &mut sealed,
-                &mut opened,
-                &mut made
-            ),
+            spoc::seal::<23, Ring>(KEY, NONCE, data, message, &mut sealed, &mut made),
             Ok(())
         );
         assert_eq!(rt; sealed.get(..ciphertext.len()), Some(*ciphertext));
-        assert_eq!(rt; opened.get(..message.len()), Some(*message));
         assert_eq!(rt; made, *tag);
+        let mut opened = [7; 16];
+        assert_eq!(rt;
+            spoc::open::<23, Ring>(KEY, NONCE, data, ciphertext, &mut opened, tag),
+            Ok(())
+        );
+        assert_eq!(rt; opened.get(..message.len()), Some(*message));
     }
 }
 
@@ -160,62 +156,52 @@ fn appended_sheets_read_back(rt: HostRuntime) -> Result<(), Fail> {
     Ok(())
 }
 
+// A fault as number, layer, record and place.
+type Fault = (u8, u8, usize, usize);
+
+fn said(answer: Result<usize, CardFault>) -> Result<usize, Fault> {
+    answer.map_err(|fault| (fault.number(), fault.layer(), fault.record(), fault.place()))
+}
+
+fn append((cell, edition, body): (u32, u16, &[u8])) -> Call<'_> {
+    Call::Append {
+        cell,
+        edition,
+        body,
+    }
+}
+
 #[test]
 fn calls_are_replayed(rt: HostRuntime) -> Result<(), Fail> {
     let mut medium = [7; 80];
-    let [(c0, e0, b0), (c1, e1, b1), (c2, e2, b2)] = sheets();
+    let [first, second, third] = sheets();
     let calls = [
-        Call::Append {
-            cell: c0,
-            edition: e0,
-            body: b0,
-        },
-        Call::Append {
-            cell: c1,
-            edition: e1,
-            body: &[0; 4097],
-        },
-        Call::Append {
-            cell: c1,
-            edition: e1,
-            body: b1,
-        },
-        Call::Append {
-            cell: c2,
-            edition: e2,
-            body: b2,
-        },
+        append(first),
+        append((8, 1, &[0; 4097])),
+        append(second),
+        append(third),
         Call::Close,
     ];
     let mut answers = [Ok(0); 5];
     let writer = Writer::<23, Ring>::start(KEY, NUMBER, &mut medium)?;
     assert_eq!(rt; replay(writer, &mut medium, &calls, &mut answers), 5);
-    assert_eq!(rt; answers[0], Ok(0));
-    assert_eq!(rt; said(answers[1]), Err((7, 2, 1, 32)));
-    assert_eq!(rt; answers[2], Ok(1));
-    assert_eq!(rt; answers[3], Ok(2));
-    assert_eq!(rt; answers[4], Ok(80));
+    assert_eq!(rt;
+        answers.map(said),
+        [Ok(0), Err((7, 2, 1, 32)), Ok(1), Ok(2), Ok(80)]
+    );
     assert_eq!(rt; medium, *CARD);
     Ok(())
 }
 
-// A fault as number, layer, record and place.
-fn said(answer: Result<usize, CardFault>) -> Result<usize, (u8, u8, usize, usize)> {
-    answer.map_err(|fault| (fault.number(), fault.layer(), fault.record(), fault.place()))
-}
-
 // How many sheets check finds under a suite.
-fn check_of<const B: usize, S: Suite<B>>(
-    key: &[u8],
-    bytes: &[u8],
-) -> Result<usize, (u8, u8, usize, usize)> {
+fn check_of<const B: usize, S: Suite<B>>(key: &[u8], bytes: &[u8]) -> Result<usize, Fault> {
     let mut card = Card::empty();
     let answer = reader::check::<B, S>(key, bytes, &mut [7; 4096], &mut card);
     said(answer.map(|()| card.count()))
 }
 
 // The fault of check where a byte of the card is another.
-fn fault_at(place: usize) -> (u8, u8, usize, usize) {
+fn fault_at(place: usize) -> Fault {
     match place {
         0..3 => (11, 3, 0, 0),
         3..5 => (12, 3, 0, 3),
