@@ -11,6 +11,7 @@ pub(crate) fn xor_front(bytes: &[u8], state: &mut [u8; 23])
     requires { length bytes.now ≤ 23 }
     ensures { state.new ≡ xors (take (length bytes.now) state.old) bytes.now ++ drop (length bytes.now) state.old }
 {
+    // By index: a proof forgets what is written through zip.
     for (i, x) in bytes.iter().enumerate() {
         state[i] ^= *x;
     }
