@@ -1,4 +1,4 @@
--- What each line of a script prints. Assumes nothing.
+-- What each line of a script prints, and the card that is being written after it. Assumes nothing.
 use Rattle.std.specs.Prelude.{◌≡◌, ℕ, zero, suc, false, cond, ◌⊎◌, List, [], ◌∷◌, ◌++◌, length, Some, None, Ok, Err, string_bytes, codes, decimal, Option, Result, String, ◌==◌}
 use Rattle.std.specs.declared.alloc.Global.{Global}
 use Rattle.permutations.specs.Bench.{bench, bench_walk}
@@ -109,6 +109,7 @@ pub record Turn : Type 0 where
   pub text : List ℕ
   pub card : Option Draft
 
+-- a turn of its two parts
 abbrev pub a_turn : List ℕ → Option Draft → Turn
 a_turn t o = record { text = t; card = o }
 
@@ -117,6 +118,7 @@ abbrev pub drafted : Result Draft Unread → Option Draft
 drafted (Ok d) = Some d
 drafted (Err e) = None
 
+-- the same, from the call and its words: write alone begins one
 abbrev pub begun : CallName → List (List ℕ) → Option Draft
 begun (Permutation call) ws = None
 begun (Cipher call) ws = None
@@ -157,23 +159,38 @@ words_turn o ws = turn_of o (with_next call_named ws (turn_asked o))
 abbrev pub line_turn : Option Draft → List ℕ → Turn
 line_turn o line = cond (silent (trimmed line)) (a_turn [] o) (words_turn o (words (trimmed line)))
 
--- the card after a line that finds no memory: it stays, or is given up where it was to be written
-abbrev pub Kept : Option Draft → Option Draft → Type 0
-Kept before after = (after ≡ before) ⊎ (after ≡ None)
+-- the card after a call that finds no memory: it stays, or is given up where it was to be written
+abbrev pub without_memory : CallName → Option Draft → Option Draft
+without_memory (Permutation call) o = o
+without_memory (Cipher call) o = o
+without_memory (Reader call) o = o
+without_memory Write o = o
+without_memory (Writer Append) o = o
+without_memory (Writer Close) o = o
+without_memory (Writer End) o = None
 
--- where a line asks something, there may be no memory for it
-abbrev pub NoMemory : Option Draft → Turn → Type 0
-NoMemory o t = (t.text ≡ answer_text (Err Memory)) × Kept o t.card
+-- the same, by what the first word says; where that is no call, the card stays
+abbrev pub named_without_memory : Option Draft → Result CallName Unread → Option Draft
+named_without_memory o (Ok call) = without_memory call o
+named_without_memory o (Err e) = o
+
+-- the card after words that find no memory
+abbrev pub kept : Option Draft → List (List ℕ) → Option Draft
+kept o ws = named_without_memory o (with_next call_named ws (λ call _. Ok call))
+
+-- what words print and leave that find no memory
+abbrev pub no_memory : Option Draft → List (List ℕ) → Turn
+no_memory o ws = a_turn (answer_text (Err Memory)) (kept o ws)
 
 -- what words may print and leave
 abbrev pub WordsMayTurn : Option Draft → List (List ℕ) → Turn → Type 0
-WordsMayTurn o ws t = (t ≡ words_turn o ws) ⊎ NoMemory o t
+WordsMayTurn o ws t = (t ≡ words_turn o ws) ⊎ (t ≡ no_memory o ws)
 
--- what a line may print and leave
+-- what a line may print and leave: where it asks something, there may be no memory for it
 abbrev pub MayTurn : Option Draft → List ℕ → Turn → Type 0
-MayTurn o line t = (t ≡ line_turn o line) ⊎ ((silent (trimmed line) ≡ false) × NoMemory o t)
+MayTurn o line t = (t ≡ line_turn o line) ⊎ ((silent (trimmed line) ≡ false) × (t ≡ no_memory o (words (trimmed line))))
 
--- an answer and the card after it, against what is asked
-abbrev pub Answers : Result (String Global) Unread → Option Draft → Option Draft → Result Turn Unread → Type 0
-Answers (Ok t) before after a = a ≡ Ok (a_turn (string_bytes t) after)
-Answers (Err e) before after a = ((a ≡ Err e) × (after ≡ before)) ⊎ ((e ≡ Memory) × Kept before after)
+-- an answer and the card after it, against what is asked, and the card where there is no memory
+abbrev pub Answers : Result (String Global) Unread → Option Draft → Option Draft → Result Turn Unread → Option Draft → Type 0
+Answers (Ok t) before after a without = a ≡ Ok (a_turn (string_bytes t) after)
+Answers (Err e) before after a without = ((a ≡ Err e) × (after ≡ before)) ⊎ ((e ≡ Memory) × (after ≡ without))

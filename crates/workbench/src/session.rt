@@ -4,7 +4,7 @@ ghost use Rattle.script.specs.Words.{words, left, with_next};
 ghost use Rattle.script.specs.Names.{call_named};
 ghost use Rattle.script.specs.declared.CallName.TheVariants.{Write, Writer};
 ghost use Rattle.card_calls.specs.Writings.{draft_in};
-ghost use Rattle.workbench.specs.Printed.{outside_card, turn_asked, a_turn, Answers, MayPrint, MayTurn, WordsMayTurn};
+ghost use Rattle.workbench.specs.Printed.{outside_card, turn_asked, a_turn, without_memory, kept, Answers, MayPrint, MayTurn, WordsMayTurn};
 
 use crate::calls::{call_permutation, call_version};
 use card_calls::{Draft, call_reader};
@@ -36,7 +36,7 @@ impl Workbench {
 
     // Begins a card.
     fn begin(&mut self, heap: Global, words: Words) -> Result<String, Unread>
-        ensures { Answers result (option_map draft_in self.old.draft) (option_map draft_in self.new.draft) (turn_asked (option_map draft_in self.old.draft) Write (left words.entry)) }
+        ensures { Answers result (option_map draft_in self.old.draft) (option_map draft_in self.new.draft) (turn_asked (option_map draft_in self.old.draft) Write (left words.entry)) (without_memory Write (option_map draft_in self.old.draft)) }
     {
         self.ask_outside()?;
         let draft = Draft::read(heap, words)?;
@@ -46,7 +46,7 @@ impl Workbench {
 
     // Makes a line of the card that is being written.
     fn go_on(&mut self, heap: Global, call: WriterCall, words: Words) -> Result<String, Unread>
-        ensures { Answers result (option_map draft_in self.old.draft) (option_map draft_in self.new.draft) (turn_asked (option_map draft_in self.old.draft) (Writer call) (left words.entry)) }
+        ensures { Answers result (option_map draft_in self.old.draft) (option_map draft_in self.new.draft) (turn_asked (option_map draft_in self.old.draft) (Writer call) (left words.entry)) (without_memory (Writer call) (option_map draft_in self.old.draft)) }
     {
         let Some(draft) = &mut self.draft else {
             return Err(Unread::NoCard);
@@ -66,7 +66,7 @@ impl Workbench {
 
     // Reads a line's words from left to right, and makes the call.
     fn call(&mut self, heap: Global, line: &[u8]) -> Result<String, Unread>
-        ensures { Answers result (option_map draft_in self.old.draft) (option_map draft_in self.new.draft) (with_next call_named (words line.now) (turn_asked (option_map draft_in self.old.draft))) }
+        ensures { Answers result (option_map draft_in self.old.draft) (option_map draft_in self.new.draft) (with_next call_named (words line.now) (turn_asked (option_map draft_in self.old.draft))) (kept (option_map draft_in self.old.draft) (words line.now)) }
     {
         let mut words = Words::new(line);
         match CallName::try_from(words.next_word()?)? {
