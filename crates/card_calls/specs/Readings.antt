@@ -62,6 +62,7 @@ count_line (Err f) = refused_line f
 unfoldable pub check_text : Checked → List ℕ
 check_text x = count_line x.answer ++ (codes "scratch " ++ (scratch_word x.scratch ++ (10 ∷ [])))
 
+-- what is printed of a check with a scratch of this length
 unfoldable pub check_said : Sealing → List ℕ → List ℕ → ℕ → List ℕ
 check_said S key bs room = check_text (check_with S key bs room)
 
@@ -80,6 +81,7 @@ abbrev pub read_answer : Sealing → Result Card Fault → ℕ → List ℕ → 
 read_answer S (Ok c) i b = headed (sheet_answer S c i (length b))
 read_answer S (Err f) i b = Err f
 
+-- its buffer after that: a card that check refuses leaves it as it was
 abbrev pub read_buffer : Sealing → Result Card Fault → ℕ → List ℕ → List ℕ
 read_buffer S (Ok c) i b = sheet_buffer S c i b
 read_buffer S (Err f) i b = b
@@ -102,6 +104,7 @@ sheet_line i buffer (Err f) = refused_line f
 unfoldable pub sheet_text : Shown → List ℕ
 sheet_text x = sheet_line x.number x.buffer x.answer ++ (codes "buffer " ++ (hex_text x.buffer ++ (10 ∷ [])))
 
+-- what is printed of sheet i with a buffer of this length
 unfoldable pub sheet_said : Sealing → List ℕ → ℕ → ℕ → List ℕ → List ℕ
 sheet_said S key i room bs = sheet_text (sheet_with S key i room bs)
 
@@ -125,6 +128,7 @@ find_text (Ok (Some i)) = codes "found " ++ (decimal i ++ (10 ∷ []))
 find_text (Ok None) = codes "none" ++ (10 ∷ [])
 find_text (Err f) = refused_line f
 
+-- what is printed of a cell that is looked for
 unfoldable pub find_said : Sealing → List ℕ → ℕ → List ℕ → List ℕ
 find_said S key cell bs = find_text (find_with S key cell bs)
 

@@ -27,11 +27,12 @@ pub record Draft : Type 0 where
   pub fill : ℕ
   pub calls : List Call
 
--- the same in memory
+-- a call in memory
 abbrev pub step_call : Step → Call
 step_call (Append c e b) = append (a_sheet c e (vec_items b))
 step_call Close = close
 
+-- a card that is being written, in memory
 unfoldable pub draft_in : code.Draft → Draft
 draft_in d = record { suite = d.suite; key = vec_items d.key; number = d.number; size = d.size; fill = d.fill; calls = map step_call (vec_items d.steps) }
 
@@ -104,5 +105,6 @@ written_text x = x.lines ++ (codes "medium " ++ (hex_text x.medium ++ (10 ∷ []
 unfoldable pub draft_over : Sealing → Draft → List ℕ
 draft_over S d = written_text (write_on S d (replicate d.size d.fill))
 
+-- the same under its own suite: what end prints
 abbrev pub draft_text : Draft → List ℕ
 draft_text d = draft_over (cipher_of d.suite) d
