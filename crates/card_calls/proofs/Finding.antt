@@ -3,7 +3,7 @@ use Rattle.std.proofs.Common.{◌≡◌, ℕ, zero, suc, ◌<◌, ◌≤◌, Boo
 use Rattle.std.proofs.lemmas.Bool.{cases_lt, eqb-true, eqb-false}
 use Rattle.std.proofs.lemmas.Bool.Decides.{nat_tests}
 use Rattle.cards.specs.Reader.{Card, cell_at, edition_at, Latest, Found, Finds}
-use Rattle.card_calls.specs.Readings.{better, found_in}
+use Rattle.card_calls.specs.Readings.{better, found_in, FoundAlone}
 
 module _ (cells editions : ℕ → ℕ) (cell : ℕ) where
   -- what holds below n and at n holds below n + 1
@@ -60,3 +60,6 @@ module _ (c : Card) (cell : ℕ) where
 
   pub found_is : (o : Option ℕ) → Finds c cell o → o ≡ found_in c cell c.count
   found_is o x = found_once (cell_at c) (edition_at c) cell c.count o (found_in c cell c.count) x (found c.count)
+
+pub found_alone : FoundAlone
+found_alone c cell = (found c cell c.count, found_is c cell)

@@ -1,9 +1,9 @@
 -- What the calls of the reader read and print. Assumes nothing.
-use Rattle.std.specs.Prelude.{ℕ, zero, suc, Bool, cond, ◌&&◌, List, [], ◌∷◌, ◌++◌, length, take, drop, replicate, Some, None, Ok, Err, vec_items, codes, decimal, Option, Result, ◌==◌, nat_le, nat_lt}
+use Rattle.std.specs.Prelude.{◌≡◌, ℕ, zero, suc, Bool, cond, ◌&&◌, List, [], ◌∷◌, ◌++◌, length, take, drop, replicate, Some, None, Ok, Err, vec_items, codes, decimal, Option, Result, ◌==◌, nat_le, nat_lt}
 use Rattle.std.specs.List.{list_all}
 use Rattle.spoc.specs.Sealing.{Sealing}
 use Rattle.cards.specs.Faults.{Fault, and_then, refused_text, told}
-use Rattle.cards.specs.Reader.{Card, check, scratch_after, sheet_answer, sheet_buffer, cell_at, edition_at}
+use Rattle.cards.specs.Reader.{Card, check, scratch_after, sheet_answer, sheet_buffer, cell_at, edition_at, Finds}
 use Rattle.reader.specs.Heads.{headed}
 use Rattle.reader.specs.declared.SheetHead.{SheetHead}
 use Rattle.script.specs.Hex.{bytes_of, hex_text}
@@ -113,10 +113,14 @@ abbrev pub better : Card → ℕ → Option ℕ → ℕ → Option ℕ
 better c cell None i = cond (cell_at c i == cell) (Some i) None
 better c cell (Some k) i = cond (cell_at c i == cell && nat_lt (edition_at c k) (edition_at c i)) (Some i) (Some k)
 
--- what find answers of the first n sheets: the only answer that its contract allows
+-- what find answers of the first n sheets
 abbrev pub found_in : Card → ℕ → ℕ → Option ℕ
 found_in c cell zero = None
 found_in c cell (suc n) = better c cell (found_in c cell n) n
+
+-- of all sheets it is what find's contract allows, and nothing else is
+abbrev pub FoundAlone : Type 0
+FoundAlone = (c : Card) (cell : ℕ) → Finds c cell (found_in c cell c.count) × ((o : Option ℕ) → Finds c cell o → o ≡ found_in c cell c.count)
 
 -- find's answer, or check's where that refuses
 unfoldable pub find_with : Sealing → List ℕ → ℕ → List ℕ → Result (Option ℕ) Fault

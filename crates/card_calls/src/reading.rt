@@ -5,7 +5,7 @@ ghost use Rattle.script.specs.declared.ReaderCall.TheVariants.{Check, Sheet, Fin
 ghost use Rattle.spoc.specs.Sealing.{spoc as spoc_of};
 ghost use Rattle.cards.specs.Faults.{told};
 ghost use Rattle.cards.specs.Reader.{check as check_of, scratch_after};
-ghost use Rattle.card_calls.specs.Readings.{all_are, is_wiped, scratch_word, check_in, counted, check_text, check_said, sheet_in, read_answer, read_buffer, head_line, sheet_text, sheet_said, find_with, find_text, find_said, reader_over, reader_asked};
+ghost use Rattle.card_calls.specs.Readings.{all_are, is_wiped, scratch_word, check_in, counted, check_text, check_said, sheet_in, read_answer, read_buffer, head_line, sheet_text, sheet_said, find_with, find_text, find_said, FoundAlone, reader_over, reader_asked};
 
 use crate::front::front_of;
 use crate::suites::read_suite;
@@ -293,9 +293,11 @@ fn call_over<const B: usize, S: Suite<B>>(
     }
 }
 
-// Reads a version, and makes a call of the reader over its suite.
+// Reads a version, and makes a call of the reader over its suite. The answer of find that is printed is the only one that find's contract allows.
+#[tactic(auto, using(crate::proofs::Finding::found_alone))]
 pub fn call_reader(heap: Global, call: ReaderCall, mut words: Words) -> Result<String, Unread>
-    ensures { Holds string_bytes result (reader_asked call (left words.entry)) }
+    ensures text { Holds string_bytes result (reader_asked call (left words.entry)) }
+    ensures found { FoundAlone }
 {
     match read_suite(words.next_word()?)? {
         SuiteName::Spoc64 => call_over::<24, Spoc64>(heap, call, words),

@@ -8,20 +8,15 @@ use Rattle.script.specs.declared.unread.Unread.TheVariants.{EmptyWord, NotANumbe
 abbrev pub value_after : ℕ → List ℕ → ℕ
 value_after = fold (λ n b. n * 10 + (b - 48))
 
--- a number, refused where it does not fit 64 bits
-abbrev pub fitting : ℕ → Result ℕ Unread
-fitting n = cond (nat_lt n (2 ^ 64)) (Ok n) (Err NumberTooLarge)
-
--- the number that a word of one digit or more writes
-abbrev pub number_of : List ℕ → Result ℕ Unread
-number_of [] = Err EmptyWord
-number_of (b ∷ bs) = cond (all_ascii_digits (b ∷ bs)) (fitting (value_after 0 (b ∷ bs))) (Err NotANumber)
-
 -- the number that a word of one digit or more writes, where it is below a limit; e is the reason where it is not
 abbrev pub number_below : ℕ → Unread → List ℕ → Result ℕ Unread
 number_below limit e [] = Err EmptyWord
 number_below limit e (b ∷ bs) =
     cond (all_ascii_digits (b ∷ bs)) (cond (nat_lt (value_after 0 (b ∷ bs)) limit) (Ok (value_after 0 (b ∷ bs))) (Err e)) (Err NotANumber)
+
+-- a number of 64 bits
+abbrev pub number_of : List ℕ → Result ℕ Unread
+number_of = number_below (2 ^ 64) NumberTooLarge
 
 -- a cell of 32 bits
 abbrev pub cell_of : List ℕ → Result ℕ Unread

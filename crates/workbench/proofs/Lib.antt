@@ -1,4 +1,3 @@
 mod Asking
 mod Tracing
 mod Turns
-mod Versions

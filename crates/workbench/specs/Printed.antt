@@ -6,15 +6,12 @@ use Rattle.permutations.specs.Light.{light_192, light_256, walk_192, walk_256}
 use Rattle.permutations.specs.Permutation.{Perm, Walk, stepped}
 use Rattle.script.specs.Hex.{bytes_of, hex_text}
 use Rattle.spoc.specs.Bench.{bench_plan}
-use Rattle.spoc.specs.Name.{suite_of}
 use Rattle.spoc.specs.Spoc128.{spoc_128}
 use Rattle.spoc.specs.Spoc64.{spoc_64}
-use Rattle.spoc.specs.declared.NoSuchVersion.{NoSuchVersion}
 use Rattle.spoc.specs.declared.SuiteName.{SuiteName}
 use Rattle.spoc.specs.declared.SuiteName.TheVariants.{Spoc64, Spoc128, Bench as SuiteBench}
 use Rattle.script.specs.Lines.{silent, trimmed}
 use Rattle.script.specs.Names.{call_named, permutation_named}
-use Rattle.script.specs.Numbers.{number_of}
 use Rattle.script.specs.Reasons.{reason}
 use Rattle.script.specs.Words.{words, with_read, with_next, ending}
 use Rattle.script.specs.declared.CallName.{CallName}
@@ -25,10 +22,11 @@ use Rattle.script.specs.declared.PermutationCall.TheVariants.{Forward, Back, Tra
 use Rattle.script.specs.declared.PermutationName.{PermutationName}
 use Rattle.script.specs.declared.PermutationName.TheVariants.{Light192, Light256, Bench}
 use Rattle.script.specs.declared.Unread.{Unread}
-use Rattle.script.specs.declared.Unread.TheVariants.{UnknownVersion, StateLength, NoCard, CardOpen, Memory}
+use Rattle.script.specs.declared.Unread.TheVariants.{StateLength, NoCard, CardOpen, Memory}
 use Rattle.script.specs.declared.WriterCall.{WriterCall}
 use Rattle.script.specs.declared.WriterCall.TheVariants.{Append, Close, End}
 use Rattle.card_calls.specs.Readings.{reader_asked}
+use Rattle.card_calls.specs.Suites.{suite_named}
 use Rattle.card_calls.specs.Writings.{Draft, draft_of, append_of, close_of, with_call, draft_text}
 use Rattle.workbench.specs.Sealings.{cipher_asked}
 
@@ -68,16 +66,15 @@ permutation_asked call ws =
     with_next bytes_of ws (λ s ws.
     with_read (ending ws) (λ _. named_answer of call s)))
 
--- a call of the cipher over the suite of a version, if there is one
-abbrev pub versioned : Result SuiteName NoSuchVersion → CipherCall → List (List ℕ) → Result (List ℕ) Unread
-versioned (Ok Spoc64) = cipher_asked light_192 spoc_64
-versioned (Ok Spoc128) = cipher_asked light_256 spoc_128
-versioned (Ok SuiteBench) = cipher_asked bench bench_plan
-versioned (Err e) = λ call ws. Err UnknownVersion
+-- a call of the cipher over a suite
+abbrev pub suite_asked : SuiteName → CipherCall → List (List ℕ) → Result (List ℕ) Unread
+suite_asked Spoc64 = cipher_asked light_192 spoc_64
+suite_asked Spoc128 = cipher_asked light_256 spoc_128
+suite_asked SuiteBench = cipher_asked bench bench_plan
 
 -- a call of the cipher reads a version first
 abbrev pub version_asked : CipherCall → List (List ℕ) → Result (List ℕ) Unread
-version_asked call ws = with_next number_of ws (λ v ws. versioned (suite_of v) call ws)
+version_asked call ws = with_next suite_named ws (λ s ws. suite_asked s call ws)
 
 -- each kind of call reads its own words; where no card is being written, write begins one, and prints nothing
 abbrev pub call_asked : CallName → List (List ℕ) → Result (List ℕ) Unread

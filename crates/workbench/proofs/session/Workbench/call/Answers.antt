@@ -21,4 +21,4 @@ pub returns-in_ok-ask_outside-in-Reader : goal.returns-in_ok-ask_outside-in-Read
 returns-in_ok-ask_outside-in-Reader c =
     let o = option_map draft_in c.args.self.now.draft in
     let none : o ≡ None = search rules in
-    over_outside o (words c.args.line.now) c.new-words.ensures c.in_ok-next_word.ensures.answer c.next_word.ensures.left c.in_ok-call.ensures c.in-Reader.is none refl refl c.call_reader.result c.call_reader.ensures
+    over_outside o (words c.args.line.now) c.new-words.ensures c.in_ok-next_word.ensures.answer c.next_word.ensures.left c.in_ok-call.ensures c.in-Reader.is none refl refl c.call_reader.result c.call_reader.ensures.text
