@@ -1,10 +1,11 @@
-ghost use Rattle.std.specs.Prelude.{◌≡◌, IfOk, Some, length, string_bytes, ◌==◌};
+ghost use Rattle.std.specs.Prelude.{◌≡◌, IfOk, Some, Ok, length, string_bytes, ◌==◌};
 ghost use Rattle.script.specs.Reasons.{Holds};
 ghost use Rattle.script.specs.Words.{left};
 ghost use Rattle.script.specs.declared.ReaderCall.TheVariants.{Check, Sheet, Find};
 ghost use Rattle.spoc.specs.Sealing.{spoc as spoc_of};
-ghost use Rattle.cards.specs.Faults.{told};
+ghost use Rattle.cards.specs.Faults.{and_then, told};
 ghost use Rattle.cards.specs.Reader.{check as check_of, scratch_after};
+ghost use Rattle.reader.specs.Cards.{shown};
 ghost use Rattle.card_calls.specs.Readings.{all_are, is_wiped, scratch_word, check_in, counted, check_text, check_said, sheet_in, read_answer, read_buffer, head_line, sheet_text, sheet_said, find_with, find_text, find_said, FoundAlone, reader_over, reader_asked};
 
 use crate::front::front_of;
@@ -149,7 +150,7 @@ struct Given<'a> {
     bytes: &'a [u8],
 }
 
-impl Given<'_> {
+impl<'a> Given<'a> {
     // Checks the card, and counts its sheets.
     fn count<const B: usize, S: Suite<B>>(&self, scratch: &mut [u8]) -> Result<usize, CardFault>
         ensures answer { told result ≡ counted (check_of (spoc_of S.Bijection.meaning S.SuiteModel.plan) self.now.key.now (length scratch.old) self.now.bytes.now) }
@@ -158,6 +159,17 @@ impl Given<'_> {
         let mut card = Card::empty();
         check::<B, S>(self.key, self.bytes, scratch, &mut card)?;
         Ok(card.count())
+    }
+
+    // The card, where check passes it.
+    #[tactic(auto, using(crate::proofs::Readers::passed_is, crate::proofs::Readers::refused_is))]
+    fn card<const B: usize, S: Suite<B>>(&self) -> Result<Card<'a>, CardFault>
+        ensures { and_then (told result) (λ c. Ok (shown c)) ≡ check_of (spoc_of S.Bijection.meaning S.SuiteModel.plan) self.now.key.now 4096 self.now.bytes.now }
+    {
+        let mut scratch = [0; MOST_BODY];
+        let mut card = Card::empty();
+        check::<B, S>(self.key, self.bytes, &mut scratch, &mut card)?;
+        Ok(card)
     }
 
     // Checks the card, and reads sheet i.
@@ -169,19 +181,16 @@ impl Given<'_> {
         ensures answer { told result ≡ read_answer (spoc_of S.Bijection.meaning S.SuiteModel.plan) (check_of (spoc_of S.Bijection.meaning S.SuiteModel.plan) self.now.key.now 4096 self.now.bytes.now) i buffer.old }
         ensures buffer { buffer.new ≡ read_buffer (spoc_of S.Bijection.meaning S.SuiteModel.plan) (check_of (spoc_of S.Bijection.meaning S.SuiteModel.plan) self.now.key.now 4096 self.now.bytes.now) i buffer.old }
     {
-        let mut scratch = [0; MOST_BODY];
-        let mut card = Card::empty();
-        check::<B, S>(self.key, self.bytes, &mut scratch, &mut card)?;
+        let card = self.card::<B, S>()?;
         sheet::<B, S>(&card, i, buffer)
     }
 
     // Checks the card, and finds the sheet with a cell.
+    #[tactic(auto, unfolding(crate::specs::Readings::find_with))]
     fn find<const B: usize, S: Suite<B>>(&self, cell: u32) -> Result<Option<usize>, CardFault>
         ensures { told result ≡ find_with (spoc_of S.Bijection.meaning S.SuiteModel.plan) self.now.key.now cell self.now.bytes.now }
     {
-        let mut scratch = [0; MOST_BODY];
-        let mut card = Card::empty();
-        check::<B, S>(self.key, self.bytes, &mut scratch, &mut card)?;
+        let card = self.card::<B, S>()?;
         Ok(find(&card, cell))
     }
 
@@ -293,7 +302,8 @@ fn call_over<const B: usize, S: Suite<B>>(
     }
 }
 
-// Reads a version, and makes a call of the reader over its suite. The answer of find that is printed is the only one that find's contract allows.
+// Reads a version, and makes a call of the reader over its suite: a match on the name for each generic function, here and in the
+// workbench's call_version, as the suite is a type. The answer of find that is printed is the only one that find's contract allows.
 #[tactic(auto, using(crate::proofs::Finding::found_alone))]
 pub fn call_reader(heap: Global, call: ReaderCall, mut words: Words) -> Result<String, Unread>
     ensures text { Holds string_bytes result (reader_asked call (left words.entry)) }

@@ -51,7 +51,8 @@ pub fn read_number(word: &[u8]) -> Result<u64, Unread>
     read_digits(word, Unread::NumberTooLarge)
 }
 
-// Reads a cell, a number of at most 32 bits.
+// Reads a cell, a number of at most 32 bits. Not one function with read_edition: over any TryFrom<u64> the bits would have to be a
+// law of a trait.
 pub fn read_cell(word: &[u8]) -> Result<u32, Unread>
     ensures { result ≡ cell_of word.now }
 {

@@ -106,7 +106,7 @@ pub(crate) fn call_permutation(
     }
 }
 
-// Reads a version, and makes the call over its suite.
+// Reads a version, and makes the call over its suite: the match is that of call_reader, over another generic function.
 pub(crate) fn call_version(
     heap: Global,
     call: CipherCall,
