@@ -1,4 +1,4 @@
-ghost use Rattle.std.specs.Prelude.{map, length, take};
+ghost use Rattle.std.specs.Prelude.{◌≤◌, map, length, take};
 ghost use Rattle.spoc.specs.Sealing.{spoc as spoc_of};
 ghost use Rattle.cards.specs.Claims.{RunsHold};
 ghost use Rattle.cards.specs.Plain.{Plain};
@@ -33,6 +33,7 @@ pub fn replay<const B: usize, S: Suite<B> + Drop>(
     answers: &mut [Result<usize, CardFault>],
 ) -> usize
     ensures same { (w : Plain) → Stands writer medium.old w → Ran result answers.old answers.new medium.new (run (spoc_of S.Bijection.meaning S.SuiteModel.plan) w (map plain_call (take (length answers.old) calls.now))) }
+    ensures made { result ≤ length answers.old }
     ensures holds { RunsHold (spoc_of S.Bijection.meaning S.SuiteModel.plan) }
 {
     let count = calls.len().min(answers.len());
