@@ -1,7 +1,7 @@
 ghost use Rattle.std.specs.Prelude.{◌≡◌, IfOk, Some, string_bytes};
 ghost use Rattle.script.specs.Reasons.{Holds};
 ghost use Rattle.script.specs.Words.{left};
-ghost use Rattle.workbench.specs.Printed.{state_text, step_text, trace_text, call_answer, permutation_asked, version_asked};
+ghost use Rattle.workbench.specs.Printed.{state_text, step_text, trace_text, call_answer, permutation_asked, suite_asked, version_asked};
 
 use crate::cipher::call_cipher;
 use card_calls::read_suite;
@@ -106,7 +106,23 @@ pub(crate) fn call_permutation(
     }
 }
 
-// Reads a version, and makes the call over its suite: the match is that of call_reader, over another generic function.
+// Makes a call of the cipher over the suite of this name.
+fn call_over(
+    heap: Global,
+    suite: SuiteName,
+    call: CipherCall,
+    words: Words,
+) -> Result<String, Unread>
+    ensures { Holds string_bytes result (suite_asked suite call (left words.entry)) }
+{
+    match suite {
+        SuiteName::Spoc64 => call_cipher::<24, Spoc64>(heap, call, words),
+        SuiteName::Spoc128 => call_cipher::<32, Spoc128>(heap, call, words),
+        SuiteName::Bench => call_cipher::<32, Bench>(heap, call, words),
+    }
+}
+
+// Reads a version, and makes the call over its suite: the same as call_reader, over another generic function.
 pub(crate) fn call_version(
     heap: Global,
     call: CipherCall,
@@ -114,9 +130,6 @@ pub(crate) fn call_version(
 ) -> Result<String, Unread>
     ensures { Holds string_bytes result (version_asked call (left words.entry)) }
 {
-    match read_suite(words.next_word()?)? {
-        SuiteName::Spoc64 => call_cipher::<24, Spoc64>(heap, call, words),
-        SuiteName::Spoc128 => call_cipher::<32, Spoc128>(heap, call, words),
-        SuiteName::Bench => call_cipher::<32, Bench>(heap, call, words),
-    }
+    let suite = read_suite(words.next_word()?)?;
+    call_over(heap, suite, call, words)
 }

@@ -64,12 +64,11 @@ impl Workbench {
         Ok(String::new(heap))
     }
 
-    // Reads a line's words from left to right, and makes the call.
-    fn call(&mut self, heap: Global, line: &[u8]) -> Result<String, Unread>
-        ensures { Answers result (option_map draft_in self.old.draft) (option_map draft_in self.new.draft) (with_next call_named (words line.now) (turn_asked (option_map draft_in self.old.draft))) (kept (option_map draft_in self.old.draft) (words line.now)) }
+    // Makes a call, by the card that is being written.
+    fn make(&mut self, heap: Global, call: CallName, words: Words) -> Result<String, Unread>
+        ensures { Answers result (option_map draft_in self.old.draft) (option_map draft_in self.new.draft) (turn_asked (option_map draft_in self.old.draft) call (left words.entry)) (without_memory call (option_map draft_in self.old.draft)) }
     {
-        let mut words = Words::new(line);
-        match CallName::try_from(words.next_word()?)? {
+        match call {
             CallName::Permutation(call) => {
                 self.ask_outside()?;
                 call_permutation(heap, call, words)
@@ -85,6 +84,15 @@ impl Workbench {
             CallName::Write => self.begin(heap, words),
             CallName::Writer(call) => self.go_on(heap, call, words),
         }
+    }
+
+    // Reads a line's words from left to right, and makes the call.
+    fn call(&mut self, heap: Global, line: &[u8]) -> Result<String, Unread>
+        ensures { Answers result (option_map draft_in self.old.draft) (option_map draft_in self.new.draft) (with_next call_named (words line.now) (turn_asked (option_map draft_in self.old.draft))) (kept (option_map draft_in self.old.draft) (words line.now)) }
+    {
+        let mut words = Words::new(line);
+        let call = CallName::try_from(words.next_word()?)?;
+        self.make(heap, call, words)
     }
 
     // What a line that asks something prints. Where it finds no memory it says so.
