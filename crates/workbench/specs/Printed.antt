@@ -156,24 +156,24 @@ words_turn o ws = turn_of o (with_next call_named ws (turn_asked o))
 abbrev pub line_turn : Option Draft → List ℕ → Turn
 line_turn o line = cond (silent (trimmed line)) (a_turn [] o) (words_turn o (words (trimmed line)))
 
--- the card after a call that finds no memory: it stays, or is given up where it was to be written
-abbrev pub without_memory : CallName → Option Draft → Option Draft
-without_memory (Permutation call) o = o
-without_memory (Cipher call) o = o
-without_memory (Reader call) o = o
-without_memory Write o = o
-without_memory (Writer Append) o = o
-without_memory (Writer Close) o = o
-without_memory (Writer End) o = None
+-- the card that is left, where there is an answer; else it stays
+abbrev pub card_left : Option Draft → Result (Option Draft) Unread → Option Draft
+card_left o (Ok k) = k
+card_left o (Err e) = o
 
--- the same, by what the first word says; where that is no call, the card stays
-abbrev pub named_without_memory : Option Draft → Result CallName Unread → Option Draft
-named_without_memory o (Ok call) = without_memory call o
-named_without_memory o (Err e) = o
+-- the card after a call that finds no memory: it stays, or is given up at an end with no more words, where it was to be written
+abbrev pub without_memory : CallName → List (List ℕ) → Option Draft → Option Draft
+without_memory (Permutation call) ws o = o
+without_memory (Cipher call) ws o = o
+without_memory (Reader call) ws o = o
+without_memory Write ws o = o
+without_memory (Writer Append) ws o = o
+without_memory (Writer Close) ws o = o
+without_memory (Writer End) ws o = card_left o (with_read (ending ws) (λ _. Ok None))
 
--- the card after words that find no memory
+-- the card after words that find no memory; where they name no call, it stays
 abbrev pub kept : Option Draft → List (List ℕ) → Option Draft
-kept o ws = named_without_memory o (with_next call_named ws (λ call _. Ok call))
+kept o ws = card_left o (with_next call_named ws (λ call ws. Ok (without_memory call ws o)))
 
 -- what words print and leave that find no memory
 abbrev pub no_memory : Option Draft → List (List ℕ) → Turn

@@ -36,7 +36,7 @@ impl Workbench {
 
     // Begins a card.
     fn begin(&mut self, heap: Global, words: Words) -> Result<String, Unread>
-        ensures { Answers result (option_map draft_in self.old.draft) (option_map draft_in self.new.draft) (turn_asked (option_map draft_in self.old.draft) Write (left words.entry)) (without_memory Write (option_map draft_in self.old.draft)) }
+        ensures { Answers result (option_map draft_in self.old.draft) (option_map draft_in self.new.draft) (turn_asked (option_map draft_in self.old.draft) Write (left words.entry)) (without_memory Write (left words.entry) (option_map draft_in self.old.draft)) }
     {
         self.ask_outside()?;
         let draft = Draft::read(heap, words)?;
@@ -46,7 +46,7 @@ impl Workbench {
 
     // Makes a line of the card that is being written.
     fn go_on(&mut self, heap: Global, call: WriterCall, words: Words) -> Result<String, Unread>
-        ensures { Answers result (option_map draft_in self.old.draft) (option_map draft_in self.new.draft) (turn_asked (option_map draft_in self.old.draft) (Writer call) (left words.entry)) (without_memory (Writer call) (option_map draft_in self.old.draft)) }
+        ensures { Answers result (option_map draft_in self.old.draft) (option_map draft_in self.new.draft) (turn_asked (option_map draft_in self.old.draft) (Writer call) (left words.entry)) (without_memory (Writer call) (left words.entry) (option_map draft_in self.old.draft)) }
     {
         let Some(draft) = &mut self.draft else {
             return Err(Unread::NoCard);
@@ -66,7 +66,7 @@ impl Workbench {
 
     // Makes a call, by the card that is being written.
     fn make(&mut self, heap: Global, call: CallName, words: Words) -> Result<String, Unread>
-        ensures { Answers result (option_map draft_in self.old.draft) (option_map draft_in self.new.draft) (turn_asked (option_map draft_in self.old.draft) call (left words.entry)) (without_memory call (option_map draft_in self.old.draft)) }
+        ensures { Answers result (option_map draft_in self.old.draft) (option_map draft_in self.new.draft) (turn_asked (option_map draft_in self.old.draft) call (left words.entry)) (without_memory call (left words.entry) (option_map draft_in self.old.draft)) }
     {
         match call {
             CallName::Permutation(call) => {
