@@ -6,7 +6,7 @@ import sys
 
 import dukkovil
 from dukkovil import (BENCH, BENCH_PERMUTATION, LIGHT192, LIGHT256, SPOC64, SPOC128, Card, Fault,
-                      Head, NoSuchStep, Refused, Writer)
+                      Head, NoSuchStep, Permutation, Refused, Suite, Writer, xor)
 from workbench import Workbench
 
 KEY = b"\1" * 8 + b"\2" * 8
@@ -305,11 +305,55 @@ def check_listing(checks: Checks) -> None:
         checks.same("listing", dukkovil.listing(text), f"refused {want}\n")
 
 
+class RingPermutation(Permutation):
+    """The permutation of a suite of another's making: a turn by 11 places, and a xor."""
+
+    size = 23
+    steps = 1
+
+    def _take(self, state: bytes, i: int) -> bytes:
+        turned = state[12:] + state[:12]
+        return xor(turned[:11], turned[11:22]) + turned[11:]
+
+    def _undo(self, state: bytes, i: int) -> bytes:
+        mixed = xor(state[:11], state[11:22]) + state[11:]
+        return mixed[11:] + mixed[:11]
+
+
+RING = RingPermutation()
+RING_SUITE = Suite("ring", 777, RING, (21, 13, 17, 11, 19), (7, 1, 9, 3, 5),
+                   lambda key, nonce: RING.forward(xor(key, nonce) + nonce[9:]))
+
+
+def check_other_suite(checks: Checks) -> None:
+    state = bytes(range(1, 24))
+    moved = bytes.fromhex("0C0C0C141414141C1C1C1C0102030405060708090A0B0C")
+    checks.same("ring forward", RING.forward(state), moved)
+    checks.same("ring back", RING.back(moved), state)
+    rows = [(b"", b"", "", "070A880A08"), (b"\x10" * 5, b"", "", "1515BA1715"),
+            (b"", b"\x10", "12", "1585DA0705"), (b"chart", b"shoal", "7B62676B64", "1D0FEC1C15"),
+            (b"chart 7", b"shoal at 5 m", "7E6D6A6466221C1547562865", "FC44BF4863")]
+    for data, message, ciphertext, tag in rows:
+        made = dukkovil.crypt(RING_SUITE, KEY, NONCE, data, message, opening=False)
+        checks.same("ring sealed", made, (bytes.fromhex(ciphertext), bytes.fromhex(tag)))
+    medium = bytearray(80)
+    writer = Writer.start(RING_SUITE, KEY, CARD_NUMBER, medium)
+    for cell, edition, body in ((7, 1, b"shoal"), (7, 2, b"deeper"), (9, 1, b"")):
+        writer.append(medium, cell, edition, body)
+    checks.same("ring card's length", writer.close(medium), 80)
+    checks.same("ring card", bytes(medium), bytes.fromhex("""
+        53454103090404040404040404
+        0100000007000100 05 766D3A250B 272F596167
+        0100000007000200 06 606030340334 44A145726C
+        0100000009000100 00 31477F0E5E
+        0200000003000000 00 3047740C5F"""))
+
+
 def main() -> int:
     checks = Checks()
     for part in (check_permutations, check_suites, check_cipher, check_cipher_faults,
                  check_bench_cards, check_tag_in_pencil, check_said_of_cards, check_workbench,
-                 check_listing):
+                 check_listing, check_other_suite):
         part(checks)
     print(f"{checks.count} checks, {checks.wrong} wrong")
     return 1 if checks.wrong else 0

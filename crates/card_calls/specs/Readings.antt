@@ -118,7 +118,7 @@ abbrev pub found_in : Card → ℕ → ℕ → Option ℕ
 found_in c cell zero = None
 found_in c cell (suc n) = better c cell (found_in c cell n) n
 
--- of all sheets it is what find's contract allows, and nothing else is
+-- over all sheets find's contract allows found_in, and no other answer
 abbrev pub FoundAlone : Type 0
 FoundAlone = (c : Card) (cell : ℕ) → Finds c cell (found_in c cell c.count) × ((o : Option ℕ) → Finds c cell o → o ≡ found_in c cell c.count)
 

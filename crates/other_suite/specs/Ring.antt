@@ -19,5 +19,6 @@ forward s = mixed (turned 12 s)
 unfoldable pub backward : List ℕ → List ℕ
 backward s = turned 11 (mixed s)
 
+-- the ring permutation: 23 bytes, forward and back
 abbrev pub ring : Perm
 ring = record { size = 23; forward = forward; back = backward }

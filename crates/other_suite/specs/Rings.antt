@@ -34,6 +34,7 @@ module _ (s : List ℕ) (b : Bytes 23 s) where
   rest : Bytes 12 (drop 11 s)
   rest = record { size = length-drop 11 s ∙ omega (arith, b.size); small = All-drop Byte 11 s b.small }
 
+  -- what is xored into the front
   abbrev part : List ℕ
   part = take 11 (drop 11 s)
 

@@ -7,7 +7,7 @@ use std::process::Abort;
 use std::test::Fail;
 use writer::{Call, Writer, replay};
 
-// What is sealed and written here, byte by byte, was made by the second implementation in reference/ over this suite.
+// What is sealed and written here, byte by byte, was made by the second implementation; reference/self_check.py makes it again.
 const KEY: &[u8; 16] = b"\x01\x01\x01\x01\x01\x01\x01\x01\x02\x02\x02\x02\x02\x02\x02\x02";
 
 const NONCE: &[u8; 16] = b"\x04\x04\x04\x04\x04\x04\x04\x04\x08\x08\x08\x08\x08\x08\x08\x08";
@@ -58,10 +58,28 @@ fn messages_are_sealed_and_open(rt: HostRuntime) {
             Ok(())
         );
         assert_eq!(rt; sealed.get(..ciphertext.len()), Some(*ciphertext));
+        assert_eq!(rt;
+            sealed.get(ciphertext.len()..),
+            [7; 16].get(ciphertext.len()..)
+        );
         assert_eq!(rt; made, *tag);
         let mut opened = [7; 16];
         assert_eq!(rt;
             spoc::open::<23, Ring>(KEY, NONCE, data, ciphertext, &mut opened, tag),
+            Ok(())
+        );
+        assert_eq!(rt; opened.get(..message.len()), Some(*message));
+        assert_eq!(rt; opened.get(message.len()..), [7; 16].get(message.len()..));
+        assert_eq!(rt;
+            spoc::seal_and_open::<23, Ring>(
+                KEY,
+                NONCE,
+                data,
+                message,
+                &mut sealed,
+                &mut opened,
+                &mut made
+            ),
             Ok(())
         );
         assert_eq!(rt; opened.get(..message.len()), Some(*message));
@@ -150,6 +168,7 @@ fn appended_sheets_read_back(rt: HostRuntime) -> Result<(), Fail> {
             }
         );
         assert_eq!(rt; buffer.get(..body.len()), Some(*body));
+        assert_eq!(rt; buffer.get(body.len()..), [7; 16].get(body.len()..));
     }
     assert_eq!(rt; find(&card, 7), Some(1));
     assert_eq!(rt; find(&card, 9), Some(2));

@@ -115,7 +115,7 @@ abbrev pub drafted : Result Draft Unread → Option Draft
 drafted (Ok d) = Some d
 drafted (Err e) = None
 
--- the same, from the call and its words: write alone begins one
+-- the same, from the call and its words: write alone begins one; apart from call_asked, which is what a line prints and stays as it was
 abbrev pub begun : CallName → List (List ℕ) → Option Draft
 begun (Permutation call) ws = None
 begun (Cipher call) ws = None
@@ -129,7 +129,7 @@ card_asked d Append ws = with_read (append_of ws) (λ c. Ok (a_turn [] (Some (wi
 card_asked d Close ws = with_read (close_of ws) (λ c. Ok (a_turn [] (Some (with_call d c))))
 card_asked d End ws = with_read (ending ws) (λ _. Ok (a_turn (draft_text d) None))
 
--- every other call stands outside a card
+-- every other call stands outside a card, as the private ask_outside asks
 abbrev pub outside_card : Option Draft → Result (Unit {0}) Unread
 outside_card None = Ok tt
 outside_card (Some d) = Err CardOpen
@@ -179,7 +179,7 @@ kept o ws = card_left o (with_next call_named ws (λ call ws. Ok (without_memory
 abbrev pub no_memory : Option Draft → List (List ℕ) → Turn
 no_memory o ws = a_turn (answer_text (Err Memory)) (kept o ws)
 
--- what words may print and leave
+-- what words may print and leave: the private turn's part of MayTurn
 abbrev pub WordsMayTurn : Option Draft → List (List ℕ) → Turn → Type 0
 WordsMayTurn o ws t = (t ≡ words_turn o ws) ⊎ (t ≡ no_memory o ws)
 
