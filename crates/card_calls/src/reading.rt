@@ -303,7 +303,7 @@ fn call_over<const B: usize, S: Suite<B>>(
 }
 
 // Reads a version, and makes a call of the reader over its suite: a match on the name for each generic function, here and in the
-// workbench's call_version, as the suite is a type. The answer of find that is printed is the only one that find's contract allows.
+// workbench's call_suite, as the suite is a type. The answer of find that is printed is the only one that find's contract allows.
 #[tactic(auto, using(crate::proofs::Finding::found_alone))]
 pub fn call_reader(heap: Global, call: ReaderCall, mut words: Words) -> Result<String, Unread>
     ensures text { Holds string_bytes result (reader_asked call (left words.entry)) }

@@ -70,6 +70,9 @@ fn messages_are_sealed_and_open(rt: HostRuntime) {
         );
         assert_eq!(rt; opened.get(..message.len()), Some(*message));
         assert_eq!(rt; opened.get(message.len()..), [7; 16].get(message.len()..));
+        let mut sealed = [9; 16];
+        let mut made = [0; 5];
+        let mut opened = [9; 16];
         assert_eq!(rt;
             spoc::seal_and_open::<23, Ring>(
                 KEY,
@@ -82,6 +85,8 @@ fn messages_are_sealed_and_open(rt: HostRuntime) {
             ),
             Ok(())
         );
+        assert_eq!(rt; sealed.get(..ciphertext.len()), Some(*ciphertext));
+        assert_eq!(rt; made, *tag);
         assert_eq!(rt; opened.get(..message.len()), Some(*message));
     }
 }
@@ -210,6 +215,10 @@ fn calls_are_replayed(rt: HostRuntime) -> Result<(), Fail> {
         [Ok(0), Err((7, 2, 1, 32)), Ok(1), Ok(2), Ok(80)]
     );
     assert_eq!(rt; medium, *CARD);
+    let mut few = [Ok(0); 2];
+    let writer = Writer::<23, Ring>::start(KEY, NUMBER, &mut medium)?;
+    assert_eq!(rt; replay(writer, &mut medium, &calls, &mut few), 2);
+    assert_eq!(rt; few.map(said), [Ok(0), Err((7, 2, 1, 32))]);
     Ok(())
 }
 

@@ -115,7 +115,7 @@ abbrev pub drafted : Result Draft Unread → Option Draft
 drafted (Ok d) = Some d
 drafted (Err e) = None
 
--- the same, from the call and its words: write alone begins one; apart from call_asked, which is what a line prints and stays as it was
+-- the card that a call with these words begins: write alone begins one. What the call prints is call_asked, apart from this.
 abbrev pub begun : CallName → List (List ℕ) → Option Draft
 begun (Permutation call) ws = None
 begun (Cipher call) ws = None
@@ -129,7 +129,7 @@ card_asked d Append ws = with_read (append_of ws) (λ c. Ok (a_turn [] (Some (wi
 card_asked d Close ws = with_read (close_of ws) (λ c. Ok (a_turn [] (Some (with_call d c))))
 card_asked d End ws = with_read (ending ws) (λ _. Ok (a_turn (draft_text d) None))
 
--- every other call stands outside a card, as the private ask_outside asks
+-- while a card is being written every other call is refused (ask_outside)
 abbrev pub outside_card : Option Draft → Result (Unit {0}) Unread
 outside_card None = Ok tt
 outside_card (Some d) = Err CardOpen
@@ -156,7 +156,7 @@ words_turn o ws = turn_of o (with_next call_named ws (turn_asked o))
 abbrev pub line_turn : Option Draft → List ℕ → Turn
 line_turn o line = cond (silent (trimmed line)) (a_turn [] o) (words_turn o (words (trimmed line)))
 
--- the card that is left, where there is an answer; else it stays
+-- the card that an answer leaves; where there is only a reason, the card before it
 abbrev pub card_left : Option Draft → Result (Option Draft) Unread → Option Draft
 card_left o (Ok k) = k
 card_left o (Err e) = o

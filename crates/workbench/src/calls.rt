@@ -106,8 +106,8 @@ pub(crate) fn call_permutation(
     }
 }
 
-// Makes a call of the cipher over the suite of this name.
-fn call_over(
+// Makes a call of the cipher over the suite of this name: the match is that of call_reader, over another generic function.
+fn call_suite(
     heap: Global,
     suite: SuiteName,
     call: CipherCall,
@@ -122,7 +122,7 @@ fn call_over(
     }
 }
 
-// Reads a version, and makes the call over its suite: the same as call_reader, over another generic function.
+// Reads a version, and makes the call over its suite.
 pub(crate) fn call_version(
     heap: Global,
     call: CipherCall,
@@ -131,5 +131,5 @@ pub(crate) fn call_version(
     ensures { Holds string_bytes result (version_asked call (left words.entry)) }
 {
     let suite = read_suite(words.next_word()?)?;
-    call_over(heap, suite, call, words)
+    call_suite(heap, suite, call, words)
 }

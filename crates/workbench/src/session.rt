@@ -64,7 +64,7 @@ impl Workbench {
         Ok(String::new(heap))
     }
 
-    // Makes a call, by the card that is being written.
+    // Makes a call. Which are allowed depends on whether a card is being written.
     fn make(&mut self, heap: Global, call: CallName, words: Words) -> Result<String, Unread>
         ensures { Answers result (option_map draft_in self.old.draft) (option_map draft_in self.new.draft) (turn_asked (option_map draft_in self.old.draft) call (left words.entry)) (without_memory call (left words.entry) (option_map draft_in self.old.draft)) }
     {

@@ -22,7 +22,7 @@ pub enum Call<'a> {
 }
 
 // Makes the calls one after the other, each on the medium that the call before left, and puts what each answers into its slot. An accepted close comes last.
-// As many calls are made as there are slots; the answer is how many were made, and the slots after them stay.
+// No more calls are made than there are slots; the answer is how many were made, and the slots after them stay.
 //
 // Answers and medium are those of the plain writer. Over every suite, a writer that has had only append and close since start never seals twice under
 // one nonce, and its closed card reads as the accepted sheets, in order.
