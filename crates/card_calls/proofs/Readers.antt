@@ -16,10 +16,10 @@ refused_is (Ok c) f e = absurd (let z : ◌≡◌ {A = ℕ} 0 1 = cc in omega ar
 refused_is (Err x) f e = ap Err (cc)
 
 -- a scratch that is too short is not wiped
-pub short_is : (s : List ℕ) → length s < 4096 → false ≡ is_wiped s
+pub short_is : (s : List ℕ) → length s < 16 → false ≡ is_wiped s
 unfolding is_wiped
-short_is s lt = let t : leb 4096 (length s) ≡ false = grind (arith, nat_tests) in rw t refl
+short_is s lt = let t : leb 16 (length s) ≡ false = grind (arith, nat_tests) in rw t refl
 
-pub long_is : (s : List ℕ) {a b : Bool} → 4096 ≤ length s → a ≡ all_are 0 (take 4096 s) → b ≡ all_are 0xA5 (drop 4096 s) → (a && b) ≡ is_wiped s
+pub long_is : (s : List ℕ) {a b : Bool} → 16 ≤ length s → a ≡ all_are 0 (take 16 s) → b ≡ all_are 0xA5 (drop 16 s) → (a && b) ≡ is_wiped s
 unfolding is_wiped
-long_is s le ea eb = let t : leb 4096 (length s) ≡ true = grind (arith, nat_tests) in rw (t, ea, eb) refl
+long_is s le ea eb = let t : leb 16 (length s) ≡ true = grind (arith, nat_tests) in rw (t, ea, eb) refl

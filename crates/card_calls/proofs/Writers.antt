@@ -3,7 +3,7 @@ use Rattle.std.proofs.Common.{◌≡◌, ℕ, zero, suc, ◌+◌, ◌<◌, ◌�
 use Rattle.std.proofs.lemmas.List.{append_assoc, append-nil, map-append, take_all, take_more}
 use Rattle.std.specs.declared.alloc.AllocError.{AllocError}
 use Rattle.std.specs.declared.alloc.Global.{Global}
-use Rattle.spoc.specs.Sealing.{Sealing}
+use Rattle.sealer.specs.Sealing.{Sealing}
 use Rattle.spoc.specs.declared.SuiteName.{SuiteName}
 use Rattle.cards.specs.Faults.{Fault, of_card, told}
 use Rattle.cards.specs.Plain.{Plain, start, start_medium, left_by, started}
@@ -20,13 +20,13 @@ use Rattle.card_calls.specs.declared.writing.Draft as code_draft
 use Rattle.card_calls.specs.declared.writing.Step.{Step}
 
 -- start's answer
-pub started_as : {B : ℕ} {S : Type 0} (x : Writer B S) (m : List ℕ) (o : Result Plain Fault) → Starts (Ok x) m o → (w : Plain) × (o ≡ Ok w) × Stands x m w
+pub started_as : {C : Type 0} (x : Writer C) (m : List ℕ) (o : Result Plain Fault) → Starts (Ok x) m o → (w : Plain) × (o ≡ Ok w) × Stands x m w
 started_as x m (Ok w) s = (w, refl, s)
 started_as x m (Err f) s = absurd s
 
-pub refused_as : (B : ℕ) (S : Type 0) (e : CardFault) (m : List ℕ) (o : Result Plain Fault) → Starts {B = B} {S = S} (Err e) m o → o ≡ Err (of_card e)
-refused_as B S e m (Ok w) s = absurd s
-refused_as B S e m (Err f) s = ap Err (sym s)
+pub refused_as : (C : Type 0) (e : CardFault) (m : List ℕ) (o : Result Plain Fault) → Starts {C = C} (Err e) m o → o ≡ Err (of_card e)
+refused_as C e m (Ok w) s = absurd s
+refused_as C e m (Err f) s = ap Err (sym s)
 
 -- the medium stays where start is refused
 pub medium_stays : (S : Sealing) (k : List ℕ) (number : ℕ) (m mm : List ℕ) (f : Fault) → start S k number m ≡ Err f → mm ≡ start_medium S k number m → mm ≡ m

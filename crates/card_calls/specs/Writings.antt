@@ -1,6 +1,6 @@
 -- What the lines of a card that is being written read and print. Assumes nothing.
 use Rattle.std.specs.Prelude.{◌≡◌, ℕ, ◌⊎◌, List, [], ◌∷◌, ◌++◌, map, replicate, Ok, Err, vec_items, string_bytes, codes, decimal, Result}
-use Rattle.spoc.specs.Sealing.{Sealing}
+use Rattle.sealer.specs.Sealing.{Sealing}
 use Rattle.spoc.specs.declared.SuiteName.{SuiteName}
 use Rattle.cards.specs.Faults.{Fault}
 use Rattle.cards.specs.Format.{a_sheet}

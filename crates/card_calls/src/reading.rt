@@ -2,7 +2,6 @@ ghost use Rattle.std.specs.Prelude.{◌≡◌, IfOk, Some, Ok, length, string_by
 ghost use Rattle.script.specs.Reasons.{Holds};
 ghost use Rattle.script.specs.Words.{left};
 ghost use Rattle.script.specs.declared.ReaderCall.TheVariants.{Check, Sheet, Find};
-ghost use Rattle.spoc.specs.Sealing.{spoc as spoc_of};
 ghost use Rattle.cards.specs.Faults.{and_then, told};
 ghost use Rattle.cards.specs.Reader.{check as check_of, scratch_after};
 ghost use Rattle.reader.specs.Cards.{shown};
@@ -10,11 +9,16 @@ ghost use Rattle.card_calls.specs.Readings.{all_are, is_wiped, scratch_word, che
 
 use crate::front::front_of;
 use crate::suites::read_suite;
-use cards::{CardFault, MOST_BODY};
+use cards::CardFault;
 use permutations::Bench;
 use reader::{Card, SheetHead, check, find, sheet};
 use script::{Hex, ReaderCall, Unread, Words, read_bytes, read_cell, read_number};
-use spoc::{Spoc64, Spoc128, Suite, SuiteName};
+use sealer::Sealer;
+use spoc::{Spoc64, Spoc128, SuiteName};
+use spoc_sealer::Spoc;
+// How many bytes of scratch check asks for.
+const SCRATCH: usize = 16;
+
 use std::alloc::{AllocError, Global};
 use std::fmt;
 
@@ -32,7 +36,7 @@ fn all_are(bytes: &[u8], value: u8) -> bool
 fn is_wiped(scratch: &[u8]) -> bool
     ensures { result ≡ is_wiped scratch.now }
 {
-    match scratch.split_at_checked(MOST_BODY) {
+    match scratch.split_at_checked(SCRATCH) {
         Some((front, rest)) => all_are(front, 0) & all_are(rest, FILLER),
         None => false,
     }
@@ -152,74 +156,74 @@ struct Given<'a> {
 
 impl<'a> Given<'a> {
     // Checks the card, and counts its sheets.
-    fn count<const B: usize, S: Suite<B>>(&self, scratch: &mut [u8]) -> Result<usize, CardFault>
-        ensures answer { told result ≡ counted (check_of (spoc_of S.Bijection.meaning S.SuiteModel.plan) self.now.key.now (length scratch.old) self.now.bytes.now) }
+    fn count<C: Sealer>(&self, scratch: &mut [u8]) -> Result<usize, CardFault>
+        ensures answer { told result ≡ counted (check_of C.meaning self.now.key.now (length scratch.old) self.now.bytes.now) }
         ensures scratch { scratch.new ≡ scratch_after self.now.key.now scratch.old }
     {
         let mut card = Card::empty();
-        check::<B, S>(self.key, self.bytes, scratch, &mut card)?;
+        check::<C>(self.key, self.bytes, scratch, &mut card)?;
         Ok(card.count())
     }
 
     // The card, where check passes it.
     #[tactic(auto, using(crate::proofs::Readers::passed_is, crate::proofs::Readers::refused_is))]
-    fn card<const B: usize, S: Suite<B>>(&self) -> Result<Card<'a>, CardFault>
-        ensures { and_then (told result) (λ c. Ok (shown c)) ≡ check_of (spoc_of S.Bijection.meaning S.SuiteModel.plan) self.now.key.now 4096 self.now.bytes.now }
+    fn card<C: Sealer>(&self) -> Result<Card<'a>, CardFault>
+        ensures { and_then (told result) (λ c. Ok (shown c)) ≡ check_of C.meaning self.now.key.now 16 self.now.bytes.now }
     {
-        let mut scratch = [0; MOST_BODY];
+        let mut scratch = [0; SCRATCH];
         let mut card = Card::empty();
-        check::<B, S>(self.key, self.bytes, &mut scratch, &mut card)?;
+        check::<C>(self.key, self.bytes, &mut scratch, &mut card)?;
         Ok(card)
     }
 
     // Checks the card, and reads sheet i.
-    fn read<const B: usize, S: Suite<B>>(
+    fn read<C: Sealer>(
         &self,
         i: usize,
         buffer: &mut [u8],
     ) -> Result<SheetHead, CardFault>
-        ensures answer { told result ≡ read_answer (spoc_of S.Bijection.meaning S.SuiteModel.plan) (check_of (spoc_of S.Bijection.meaning S.SuiteModel.plan) self.now.key.now 4096 self.now.bytes.now) i buffer.old }
-        ensures buffer { buffer.new ≡ read_buffer (spoc_of S.Bijection.meaning S.SuiteModel.plan) (check_of (spoc_of S.Bijection.meaning S.SuiteModel.plan) self.now.key.now 4096 self.now.bytes.now) i buffer.old }
+        ensures answer { told result ≡ read_answer C.meaning (check_of C.meaning self.now.key.now 16 self.now.bytes.now) i buffer.old }
+        ensures buffer { buffer.new ≡ read_buffer C.meaning (check_of C.meaning self.now.key.now 16 self.now.bytes.now) i buffer.old }
     {
-        let card = self.card::<B, S>()?;
-        sheet::<B, S>(&card, i, buffer)
+        let card = self.card::<C>()?;
+        sheet::<C>(&card, i, buffer)
     }
 
     // Checks the card, and finds the sheet with a cell.
     #[tactic(auto, unfolding(crate::specs::Readings::find_with))]
-    fn find<const B: usize, S: Suite<B>>(&self, cell: u32) -> Result<Option<usize>, CardFault>
-        ensures { told result ≡ find_with (spoc_of S.Bijection.meaning S.SuiteModel.plan) self.now.key.now cell self.now.bytes.now }
+    fn find<C: Sealer>(&self, cell: u32) -> Result<Option<usize>, CardFault>
+        ensures { told result ≡ find_with C.meaning self.now.key.now cell self.now.bytes.now }
     {
-        let card = self.card::<B, S>()?;
+        let card = self.card::<C>()?;
         Ok(find(&card, cell))
     }
 
     // Checks the card with a scratch of this length, and says what was answered.
     #[tactic(auto, unfolding(crate::specs::Readings::check_said))]
-    fn answer_check<const B: usize, S: Suite<B>>(
+    fn answer_check<C: Sealer>(
         &self,
         heap: Global,
         room: usize,
     ) -> Result<String, AllocError>
-        ensures { IfOk result (λ t. string_bytes t ≡ check_said (spoc_of S.Bijection.meaning S.SuiteModel.plan) self.now.key.now self.now.bytes.now room) }
+        ensures { IfOk result (λ t. string_bytes t ≡ check_said C.meaning self.now.key.now self.now.bytes.now room) }
     {
         let mut scratch = vec![in heap; FILLER; room]?;
-        let answer = self.count::<B, S>(scratch.as_mut_slice());
+        let answer = self.count::<C>(scratch.as_mut_slice());
         CheckRun { answer, scratch }.to_string(heap)
     }
 
     // Reads sheet i into a buffer of this length, and says what was answered.
     #[tactic(auto, unfolding(crate::specs::Readings::sheet_said))]
-    fn answer_sheet<const B: usize, S: Suite<B>>(
+    fn answer_sheet<C: Sealer>(
         &self,
         heap: Global,
         i: usize,
         room: usize,
     ) -> Result<String, AllocError>
-        ensures { IfOk result (λ t. string_bytes t ≡ sheet_said (spoc_of S.Bijection.meaning S.SuiteModel.plan) self.now.key.now i room self.now.bytes.now) }
+        ensures { IfOk result (λ t. string_bytes t ≡ sheet_said C.meaning self.now.key.now i room self.now.bytes.now) }
     {
         let mut buffer = vec![in heap; FILLER; room]?;
-        let answer = self.read::<B, S>(i, buffer.as_mut_slice());
+        let answer = self.read::<C>(i, buffer.as_mut_slice());
         let run = SheetRun {
             number: i,
             answer,
@@ -230,20 +234,20 @@ impl<'a> Given<'a> {
 
     // Finds a cell, and says what was answered.
     #[tactic(auto, unfolding(crate::specs::Readings::find_said))]
-    fn answer_find<const B: usize, S: Suite<B>>(
+    fn answer_find<C: Sealer>(
         &self,
         heap: Global,
         cell: u32,
     ) -> Result<String, AllocError>
-        ensures { IfOk result (λ t. string_bytes t ≡ find_said (spoc_of S.Bijection.meaning S.SuiteModel.plan) self.now.key.now cell self.now.bytes.now) }
+        ensures { IfOk result (λ t. string_bytes t ≡ find_said C.meaning self.now.key.now cell self.now.bytes.now) }
     {
-        Finding(self.find::<B, S>(cell)).to_string(heap)
+        Finding(self.find::<C>(cell)).to_string(heap)
     }
 }
 
 // KEY CARD SCRATCH
-fn call_check<const B: usize, S: Suite<B>>(heap: Global, mut words: Words) -> Result<String, Unread>
-    ensures { Holds string_bytes result (reader_over (spoc_of S.Bijection.meaning S.SuiteModel.plan) Check (left words.entry)) }
+fn call_check<C: Sealer>(heap: Global, mut words: Words) -> Result<String, Unread>
+    ensures { Holds string_bytes result (reader_over C.meaning Check (left words.entry)) }
 {
     let key = read_bytes(heap, words.next_word()?)?;
     let bytes = read_bytes(heap, words.next_word()?)?;
@@ -253,12 +257,12 @@ fn call_check<const B: usize, S: Suite<B>>(heap: Global, mut words: Words) -> Re
         key: key.as_slice(),
         bytes: bytes.as_slice(),
     };
-    Ok(given.answer_check::<B, S>(heap, room as usize)?)
+    Ok(given.answer_check::<C>(heap, room as usize)?)
 }
 
 // KEY I LENGTH CARD
-fn call_sheet<const B: usize, S: Suite<B>>(heap: Global, mut words: Words) -> Result<String, Unread>
-    ensures { Holds string_bytes result (reader_over (spoc_of S.Bijection.meaning S.SuiteModel.plan) Sheet (left words.entry)) }
+fn call_sheet<C: Sealer>(heap: Global, mut words: Words) -> Result<String, Unread>
+    ensures { Holds string_bytes result (reader_over C.meaning Sheet (left words.entry)) }
 {
     let key = read_bytes(heap, words.next_word()?)?;
     let i = read_number(words.next_word()?)?;
@@ -269,12 +273,12 @@ fn call_sheet<const B: usize, S: Suite<B>>(heap: Global, mut words: Words) -> Re
         key: key.as_slice(),
         bytes: bytes.as_slice(),
     };
-    Ok(given.answer_sheet::<B, S>(heap, i as usize, room as usize)?)
+    Ok(given.answer_sheet::<C>(heap, i as usize, room as usize)?)
 }
 
 // KEY CELL CARD
-fn call_find<const B: usize, S: Suite<B>>(heap: Global, mut words: Words) -> Result<String, Unread>
-    ensures { Holds string_bytes result (reader_over (spoc_of S.Bijection.meaning S.SuiteModel.plan) Find (left words.entry)) }
+fn call_find<C: Sealer>(heap: Global, mut words: Words) -> Result<String, Unread>
+    ensures { Holds string_bytes result (reader_over C.meaning Find (left words.entry)) }
 {
     let key = read_bytes(heap, words.next_word()?)?;
     let cell = read_cell(words.next_word()?)?;
@@ -284,21 +288,21 @@ fn call_find<const B: usize, S: Suite<B>>(heap: Global, mut words: Words) -> Res
         key: key.as_slice(),
         bytes: bytes.as_slice(),
     };
-    Ok(given.answer_find::<B, S>(heap, cell)?)
+    Ok(given.answer_find::<C>(heap, cell)?)
 }
 
 // Makes a call of the reader over a suite, from the words after the version.
-fn call_over<const B: usize, S: Suite<B>>(
+fn call_over<C: Sealer>(
     heap: Global,
     call: ReaderCall,
     words: Words,
 ) -> Result<String, Unread>
-    ensures { Holds string_bytes result (reader_over (spoc_of S.Bijection.meaning S.SuiteModel.plan) call (left words.entry)) }
+    ensures { Holds string_bytes result (reader_over C.meaning call (left words.entry)) }
 {
     match call {
-        ReaderCall::Check => call_check::<B, S>(heap, words),
-        ReaderCall::Sheet => call_sheet::<B, S>(heap, words),
-        ReaderCall::Find => call_find::<B, S>(heap, words),
+        ReaderCall::Check => call_check::<C>(heap, words),
+        ReaderCall::Sheet => call_sheet::<C>(heap, words),
+        ReaderCall::Find => call_find::<C>(heap, words),
     }
 }
 
@@ -310,8 +314,8 @@ pub fn call_reader(heap: Global, call: ReaderCall, mut words: Words) -> Result<S
     ensures found { FoundAlone }
 {
     match read_suite(words.next_word()?)? {
-        SuiteName::Spoc64 => call_over::<24, Spoc64>(heap, call, words),
-        SuiteName::Spoc128 => call_over::<32, Spoc128>(heap, call, words),
-        SuiteName::Bench => call_over::<32, Bench>(heap, call, words),
+        SuiteName::Spoc64 => call_over::<Spoc<24, Spoc64>>(heap, call, words),
+        SuiteName::Spoc128 => call_over::<Spoc<32, Spoc128>>(heap, call, words),
+        SuiteName::Bench => call_over::<Spoc<32, Bench>>(heap, call, words),
     }
 }

@@ -1,7 +1,6 @@
 ghost use Rattle.std.specs.Prelude.{◌≡◌, map, is_ok, IfOk, Some, if◌then◌else◌, string_bytes};
 ghost use Rattle.script.specs.Reasons.{Holds};
 ghost use Rattle.script.specs.Words.{left};
-ghost use Rattle.spoc.specs.Sealing.{spoc as spoc_of};
 ghost use Rattle.cards.specs.Faults.{told};
 ghost use Rattle.cards.specs.Plain.{Plain};
 ghost use Rattle.cards.specs.Runs.{run as run_of};
@@ -14,7 +13,9 @@ use crate::suites::read_suite;
 use cards::CardFault;
 use permutations::Bench;
 use script::{Hex, Unread, Words, read_byte, read_bytes, read_cell, read_edition, read_number};
-use spoc::{Spoc64, Spoc128, Suite, SuiteName};
+use sealer::Sealer;
+use spoc::{Spoc64, Spoc128, SuiteName};
+use spoc_sealer::Spoc;
 use std::alloc::{AllocError, AllocFailed, Global};
 use std::fmt;
 use std::fmt::Write;
@@ -124,17 +125,17 @@ impl Draft {
     }
 
     // Starts a card on the medium, makes its calls, and says what was answered.
-    fn write_on<const B: usize, S: Suite<B> + Drop>(
+    fn write_on<C: Sealer + Drop>(
         &self,
         heap: Global,
         medium: &mut [u8],
     ) -> Result<String, AllocError>
-        ensures { IfOk result (λ t. ◌≡◌ {A = Written} record { lines = string_bytes t; medium = medium.new } (write_on (spoc_of S.Bijection.meaning S.SuiteModel.plan) (draft_in self.now) medium.old)) }
+        ensures { IfOk result (λ t. ◌≡◌ {A = Written} record { lines = string_bytes t; medium = medium.new } (write_on C.meaning (draft_in self.now) medium.old)) }
     {
         let calls = calls_of(heap, self.steps.as_slice())?;
-        match Writer::<B, S>::start(self.key.as_slice(), self.number, medium) {
+        match Writer::<C>::start(self.key.as_slice(), self.number, medium) {
             Ok(writer) => {
-                let lines = run_calls::<B, S>(heap, writer, medium, calls.as_slice())?;
+                let lines = run_calls::<C>(heap, writer, medium, calls.as_slice())?;
                 format!(in heap; "started\n{lines}")
             }
             Err(fault) => format!(in heap; "{fault}\n"),
@@ -142,14 +143,14 @@ impl Draft {
     }
 
     // Writes the card on a new medium, under a suite.
-    fn answer_over<const B: usize, S: Suite<B> + Drop>(
+    fn answer_over<C: Sealer + Drop>(
         &self,
         heap: Global,
     ) -> Result<String, AllocError>
-        ensures { IfOk result (λ t. string_bytes t ≡ draft_over (spoc_of S.Bijection.meaning S.SuiteModel.plan) (draft_in self.now)) }
+        ensures { IfOk result (λ t. string_bytes t ≡ draft_over C.meaning (draft_in self.now)) }
     {
         let mut medium = vec![in heap; self.fill; self.size]?;
-        let lines = self.write_on::<B, S>(heap, medium.as_mut_slice())?;
+        let lines = self.write_on::<C>(heap, medium.as_mut_slice())?;
         WriteRun { lines, medium }.to_string(heap)
     }
 
@@ -158,9 +159,9 @@ impl Draft {
         ensures { IfOk result (λ t. string_bytes t ≡ draft_text (draft_in self.now)) }
     {
         match self.suite {
-            SuiteName::Spoc64 => self.answer_over::<24, Spoc64>(heap),
-            SuiteName::Spoc128 => self.answer_over::<32, Spoc128>(heap),
-            SuiteName::Bench => self.answer_over::<32, Bench>(heap),
+            SuiteName::Spoc64 => self.answer_over::<Spoc<24, Spoc64>>(heap),
+            SuiteName::Spoc128 => self.answer_over::<Spoc<32, Spoc128>>(heap),
+            SuiteName::Bench => self.answer_over::<Spoc<32, Bench>>(heap),
         }
     }
 }
@@ -217,13 +218,13 @@ fn lines_of(
 }
 
 // Makes the calls, each with a slot for its answer, and says what each answered.
-fn run_calls<const B: usize, S: Suite<B> + Drop>(
+fn run_calls<C: Sealer + Drop>(
     heap: Global,
-    writer: Writer<B, S>,
+    writer: Writer<C>,
     medium: &mut [u8],
     calls: &[Call<'_>],
 ) -> Result<String, AllocError>
-    ensures { (w : Plain) → Stands writer medium.old w → IfOk result (λ t. (string_bytes t ≡ call_lines (map plain_call calls.now) (run_of (spoc_of S.Bijection.meaning S.SuiteModel.plan) w (map plain_call calls.now)).answers) × (medium.new ≡ (run_of (spoc_of S.Bijection.meaning S.SuiteModel.plan) w (map plain_call calls.now)).medium)) }
+    ensures { (w : Plain) → Stands writer medium.old w → IfOk result (λ t. (string_bytes t ≡ call_lines (map plain_call calls.now) (run_of C.meaning w (map plain_call calls.now)).answers) × (medium.new ≡ (run_of C.meaning w (map plain_call calls.now)).medium)) }
 {
     let mut answers = vec![in heap; Ok(0); calls.len()]?;
     let made = replay(writer, medium, calls, answers.as_mut_slice());

@@ -3,7 +3,7 @@ use Rattle.std.proofs.Common.{ℕ, suc, ◌/◌, ◌%◌, ◌<◌, List, [], ◌
 use Rattle.std.specs.List.{AllByRecursion}
 use Rattle.std.proofs.ByRecursion.{All-append, All-drop}
 use Rattle.permutations.specs.Permutation.{Bytes}
-use Rattle.spoc.specs.Sealing.{Sealing, Laws, Octets}
+use Rattle.sealer.specs.Sealing.{Sealing, Laws, Octets}
 use Rattle.cards.specs.Format.{be2, be4, be8, mark, header, head, nonce, sealed, Sheet, sheet_record, end_record, records, card}
 use Rattle.cards.specs.Claims.{Well}
 

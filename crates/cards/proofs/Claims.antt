@@ -1,7 +1,7 @@
 -- The claims on cards.
 use Rattle.std.proofs.Common.{◌≡◌, ℕ, ◌≤◌, List, [], ◌∷◌, ◌++◌, length, sym, ap, subst, le_refl}
 use Rattle.std.specs.List.{AllByRecursion}
-use Rattle.spoc.specs.Sealing.{Sealing, Laws}
+use Rattle.sealer.specs.Sealing.{Sealing, Laws}
 use Rattle.cards.specs.Format.{Sheet, card}
 use Rattle.cards.specs.Plain.{Plain}
 use Rattle.cards.specs.Runs.{run, accepted}
@@ -25,7 +25,7 @@ module _ (S : Sealing) (L : Laws S) where
   reads_as_written key bytes sheets o well = (
     (λ a.
         let x = reads_card S L key bytes sheets o a in
-        let hk = (checked_back S key bytes 4096 a.card (a.passes 4096 (le_refl 4096))).0 in
+        let hk = (checked_back S key bytes 16 a.card (a.passes 16 (le_refl 16))).0 in
         (x.number, x.small, subst (Gives S key x.number sheets) (sym x.is) (gives_card key x.number sheets hk well x.fit x.few))),
     (λ g.
         let x = writes_card S L key g.0 sheets bytes bytes well (g.2 bytes o (le_refl (length bytes))) in

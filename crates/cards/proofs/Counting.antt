@@ -1,7 +1,7 @@
 -- A loop over the records that counts sheets, turn by turn.
 use Rattle.std.proofs.Common.{◌≡◌, ℕ, suc, ◌+◌, ◌-◌, ◌<◌, true, false, cond, eqb, List, [], ◌∷◌, length, drop, Some, None, Ok, Err, Result, sym, refl, ap, ◌∙◌, add-one, arith}
 use Rattle.std.proofs.lemmas.Bool.Decides.{nat_tests}
-use Rattle.spoc.specs.Sealing.{Sealing}
+use Rattle.sealer.specs.Sealing.{Sealing}
 use Rattle.cards.specs.Faults.{Fault, fault, and_then}
 use Rattle.cards.specs.Format.{Sheet}
 use Rattle.cards.specs.Reader.{read_record, walk, how_many, length_of}
@@ -19,7 +19,7 @@ module _ (S : Sealing) (key h : List ℕ) where
   pub total_refused : (n p : ℕ) (rest : List ℕ) (f : Fault) → read_record S key h n p rest ≡ Err f → total n p rest ≡ Err f
   total_refused n p rest f x = ap (how_many n) (walk_refused S key h (512 - n) n p rest f x)
 
-  pub total_sheet : (n p k : ℕ) (rest : List ℕ) (s : Sheet) → n < 512 → k ≡ 9 + length_of rest + S.rate → read_record S key h n p rest ≡ Ok (Some s) → total n p rest ≡ total (n + 1) (p + k) (drop k rest)
+  pub total_sheet : (n p k : ℕ) (rest : List ℕ) (s : Sheet) → n < 512 → k ≡ 9 + length_of rest + S.width → read_record S key h n p rest ≡ Ok (Some s) → total n p rest ≡ total (n + 1) (p + k) (drop k rest)
   total_sheet n p k rest s few size x =
       let left : 512 - n ≡ suc (512 - (n + 1)) = omega arith in
       ap (λ i. how_many n (walk S key h i n p rest)) left
@@ -28,12 +28,12 @@ module _ (S : Sealing) (key h : List ℕ) where
       ∙ one_more n s (walk S key h (512 - (n + 1)) (suc n) (p + k) (drop k rest))
       ∙ ap (λ i. how_many (n + 1) (walk S key h (512 - (n + 1)) i (p + k) (drop k rest))) (sym (add-one n))
 
-  pub total_end : (n p : ℕ) (rest : List ℕ) → read_record S key h n p rest ≡ Ok None → length rest ≡ 9 + S.rate → total n p rest ≡ Ok n
+  pub total_end : (n p : ℕ) (rest : List ℕ) → read_record S key h n p rest ≡ Ok None → length rest ≡ 9 + S.width → total n p rest ≡ Ok n
   total_end n p rest x e =
-      let t : eqb (length rest) (9 + S.rate) ≡ true = grind (arith, nat_tests) in
-      ap (how_many n) (walk_end S key h (512 - n) n p rest x ∙ ap (λ z. cond z (Ok []) (Err (fault 15 3 n (p + (9 + S.rate))))) t) ∙ ap Ok (omega arith)
+      let t : eqb (length rest) (9 + S.width) ≡ true = grind (arith, nat_tests) in
+      ap (how_many n) (walk_end S key h (512 - n) n p rest x ∙ ap (λ z. cond z (Ok []) (Err (fault 15 3 n (p + (9 + S.width))))) t) ∙ ap Ok (omega arith)
 
-  pub total_left : (n p : ℕ) (rest : List ℕ) → read_record S key h n p rest ≡ Ok None → 9 + S.rate < length rest → total n p rest ≡ Err (fault 15 3 n (p + (9 + S.rate)))
+  pub total_left : (n p : ℕ) (rest : List ℕ) → read_record S key h n p rest ≡ Ok None → 9 + S.width < length rest → total n p rest ≡ Err (fault 15 3 n (p + (9 + S.width)))
   total_left n p rest x e =
-      let t : eqb (length rest) (9 + S.rate) ≡ false = grind (arith, nat_tests) in
-      ap (how_many n) (walk_end S key h (512 - n) n p rest x ∙ ap (λ z. cond z (Ok []) (Err (fault 15 3 n (p + (9 + S.rate))))) t)
+      let t : eqb (length rest) (9 + S.width) ≡ false = grind (arith, nat_tests) in
+      ap (how_many n) (walk_end S key h (512 - n) n p rest x ∙ ap (λ z. cond z (Ok []) (Err (fault 15 3 n (p + (9 + S.width))))) t)

@@ -1,7 +1,7 @@
 -- Find on a card that reads as a list.
 use Rattle.std.proofs.Common.{◌≡◌, ℕ, ◌+◌, ◌<◌, List, ◌++◌, length, get_or, take, drop, Some, None, Ok, Option, sym, ap, ◌∙◌, subst, le_refl, arith}
 use Rattle.std.proofs.lemmas.Bool.Decides.{nat_tests}
-use Rattle.spoc.specs.Sealing.{Sealing}
+use Rattle.sealer.specs.Sealing.{Sealing}
 use Rattle.cards.specs.Faults.{Fault, fault}
 use Rattle.cards.specs.Format.{Sheet, a_sheet, nonce}
 use Rattle.cards.specs.Reader.{Card, sheet_answer, unseal, head_of, body_of, tag_of, place_of, cell_at, edition_at, Found}
@@ -27,10 +27,10 @@ unsealed_fields c e None f s h = absurd (let z : ◌≡◌ {A = ℕ} 0 1 = cc in
 -- what sheet answers has the cell and the edition that stand in the record
 sheet_fields : (S : Sealing) (c : Card) (i buffer : ℕ) (s : Sheet) → sheet_answer S c i buffer ≡ Ok s → (s.cell ≡ cell_at c i) × (s.edition ≡ edition_at c i)
 sheet_fields S c i buffer s h =
-    let p = place_of c.rate c.bytes i in
+    let p = place_of c.width c.bytes i in
     let rest = drop p c.bytes in
     let hd = take 13 c.bytes in
-    let z = S.opens c.key (nonce hd i) (hd ++ head_of rest) (body_of rest) (tag_of S.rate rest) in
+    let z = S.opens c.key (nonce hd i) (hd ++ head_of rest) (body_of rest) (tag_of S.width rest) in
     unsealed_fields (cell_at c i) (edition_at c i) z (fault 6 1 i (p + 9)) s (grind (arith, nat_tests))
 
 pub find_tells : (S : Sealing) → FindTells S

@@ -2,7 +2,7 @@
 use Rattle.std.proofs.Common.{◌≡◌, ℕ, ◌+◌, ◌*◌, ◌^◌, ◌<◌, ◌≤◌, true, List, [], ◌∷◌, ◌++◌, length, take, sym, ap, ◌∙◌, arith}
 use Rattle.std.specs.Str.{bytes_eq}
 use Rattle.std.proofs.lemmas.Bool.Decides.{nat_tests}
-use Rattle.spoc.specs.Sealing.{Octets}
+use Rattle.sealer.specs.Sealing.{Octets}
 use Rattle.cards.specs.Format.{be2, be8, mark, head, header}
 use Rattle.cards.specs.Reader.{kind_of, cell_of, edition_of, length_of, version_of}
 use Rattle.cards.proofs.Numbers.{be2_from, be4_from, be8_from, eight}

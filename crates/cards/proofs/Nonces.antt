@@ -1,7 +1,7 @@
 -- The nonces of a run are all different.
 use Rattle.std.proofs.Common.{◌≡◌, ℕ, ◌+◌, ◌≤◌, List, [], ◌∷◌, length, drop, Ok, Err, Result, refl, ◌∙◌, subst, arith}
 use Rattle.std.proofs.lemmas.List.{append_cancel_left, length_push}
-use Rattle.spoc.specs.Sealing.{Sealing}
+use Rattle.sealer.specs.Sealing.{Sealing}
 use Rattle.cards.specs.Faults.{Fault}
 use Rattle.cards.specs.Format.{nonce, be8, Sheet}
 use Rattle.cards.specs.Plain.{Plain, count, next_nonce, append_answer, appended, close_answer, left_by}
@@ -34,7 +34,7 @@ good_more h n ys le g = (((n, omega arith, le, refl), from_lower h n (n + 1) ys 
 module _ (S : Sealing) where
   append_step : (w : Plain) (s : Sheet) (cs : List Call) (a : Result ℕ Fault) → append_answer S w s ≡ a → count w ≤ 512 → ((v : Plain) → count v ≤ 512 → Good v.header (count v) (run S v cs).nonces) → Good w.header (count w) (answered a (next_nonce w) (run S (left_by a (appended S w s) w) cs)).nonces
   append_step w s cs (Ok k) is le ih =
-      let x = append_passed S.rate (count w) w.place (length s.body) (length w.medium) k is in
+      let x = append_passed S.width (count w) w.place (length s.body) (length w.medium) k is in
       let more = length_push w.sheets s in
       let v : Plain = appended S w s in
       let next = ih v (omega (arith, x.few)) in

@@ -5,7 +5,7 @@ use Rattle.std.proofs.lemmas.List.{length-append, take_at, drop_at, drop-drop, t
 use Rattle.std.proofs.lemmas.List.Edits.{length-between}
 use Rattle.std.proofs.ByRecursion.{All-get_or}
 use Rattle.std.proofs.lemmas.Bool.Decides.{nat_tests}
-use Rattle.spoc.specs.Sealing.{Octets}
+use Rattle.sealer.specs.Sealing.{Octets}
 use Rattle.cards.specs.Format.{head}
 use Rattle.cards.specs.Reader.{sheet, last, parse, kind_of, cell_of, edition_of, length_of, head_of, body_of, tag_of}
 use Rattle.cards.proofs.Numbers.{two_bytes, four_bytes}

@@ -5,7 +5,7 @@ use Rattle.std.specs.Str.{bytes_eq}
 use Rattle.std.proofs.ByRecursion.{All-drop, All-get_or}
 use Rattle.std.proofs.lemmas.List.{length-append, drop-drop, drop_more, drop_at, take_at, take-append-drop, ext_get_or}
 use Rattle.std.proofs.lemmas.Bool.Decides.{nat_tests}
-use Rattle.spoc.specs.Sealing.{Sealing, Laws, Octets}
+use Rattle.sealer.specs.Sealing.{Sealing, Laws, Octets}
 use Rattle.cards.specs.Faults.{Fault, fault, and_then}
 use Rattle.cards.specs.Format.{header, mark, nonce, Sheet, a_sheet, end_record, records, card}
 use Rattle.cards.specs.Reader.{Card, checked, check, check_bytes, walk, place_of, sheet_at, sheet_answer, unseal, cell_of, edition_of, length_of, head_of, body_of, tag_of, version_of}
@@ -21,7 +21,7 @@ module _ (S : Sealing) (L : Laws S) (key h : List ℕ) (xs : List Sheet) (hl : l
   bytes = h ++ tail_from S key h 0 xs
 
   abbrev place : ℕ → ℕ
-  place i = place_of S.rate bytes i
+  place i = place_of S.width bytes i
 
   at_sheet : (i : ℕ) (d : Sheet) → i < length xs → drop (place i) bytes ≡ tail_from S key h i (drop i xs) → Seen S L key h i (get_or xs i d) (tail_from S key h (suc i) (drop (suc i) xs)) (drop (place i) bytes)
   at_sheet i d lt e =
@@ -35,8 +35,8 @@ module _ (S : Sealing) (L : Laws S) (key h : List ℕ) (xs : List Sheet) (hl : l
   at_record d (suc i) le =
       let here = at_sheet i d le (at_record d i (omega arith)) in
       let p = place i in
-      let k = 9 + length (get_or xs i d).body + S.rate in
-      ap (λ j. drop (p + (9 + j + S.rate)) bytes) here.size ∙ sym (drop-drop k p bytes) ∙ here.on
+      let k = 9 + length (get_or xs i d).body + S.width in
+      ap (λ j. drop (p + (9 + j + S.width)) bytes) here.size ∙ sym (drop-drop k p bytes) ∙ here.on
 
   sheet_read : (i buffer : ℕ) (d : Sheet) (k : List ℕ) → k ≡ h → i < length xs → length (get_or xs i d).body ≤ buffer → sheet_at S key k i (place i) (drop (place i) bytes) buffer ≡ Ok (get_or xs i d)
   sheet_read i buffer d k e lt le =
@@ -45,7 +45,7 @@ module _ (S : Sealing) (L : Laws S) (key h : List ℕ) (xs : List Sheet) (hl : l
       let s = get_or xs i d in
       let t : leb (length_of rest) buffer ≡ true = let z : length_of rest ≡ length s.body = here.size in grind (arith, nat_tests) in
       ap (λ (z : List ℕ). sheet_at S key z i (place i) rest buffer) e
-      ∙ ap (λ z. cond z (unseal (S.opens key (nonce h i) (h ++ head_of rest) (body_of rest) (tag_of S.rate rest)) (λ m. a_sheet (cell_of rest) (edition_of rest) m) (fault 6 1 i (place i + 9))) (Err (fault 4 1 i (place i + 9)))) t
+      ∙ ap (λ z. cond z (unseal (S.opens key (nonce h i) (h ++ head_of rest) (body_of rest) (tag_of S.width rest)) (λ m. a_sheet (cell_of rest) (edition_of rest) m) (fault 6 1 i (place i + 9))) (Err (fault 4 1 i (place i + 9)))) t
       ∙ ap (λ z. unseal z (λ m. a_sheet (cell_of rest) (edition_of rest) m) (fault 6 1 i (place i + 9))) here.opens
       ∙ ap (λ c. Ok (a_sheet c (edition_of rest) s.body)) here.cell
       ∙ ap (λ c. Ok (a_sheet s.cell c s.body)) here.edition
@@ -54,7 +54,7 @@ module _ (S : Sealing) (L : Laws S) (key h : List ℕ) (xs : List Sheet) (hl : l
   answer_read i buffer d lt le =
       let same : (n : ℕ) → eqb n n ≡ true = λ n. grind (arith, nat_tests) in
       let t1 = same S.version in
-      let t2 = same S.rate in
+      let t2 = same S.width in
       let t3 : ltb i (length xs) ≡ true = grind (arith, nat_tests) in
       rw (t1, t2, t3) (sheet_read i buffer d (take 13 bytes) (take_at h (tail_from S key h 0 xs) 13 hl) lt le)
 
@@ -82,11 +82,11 @@ module _ (S : Sealing) (L : Laws S) (key : List ℕ) where
       ∙ ap (λ z. cond z (walk S key h 512 0 13 (tail_from S key h 0 xs)) (Err (fault 12 3 0 3))) t2
       ∙ walk_written S key h L xs 512 0 13 fit refl few
 
-  check_passed : (bs : List ℕ) (xs : List Sheet) (scratch : ℕ) → length key ≡ 16 → 4096 ≤ scratch → check_bytes S key bs ≡ Ok xs → check S key scratch bs ≡ Ok (checked S key bs xs)
+  check_passed : (bs : List ℕ) (xs : List Sheet) (scratch : ℕ) → length key ≡ 16 → 16 ≤ scratch → check_bytes S key bs ≡ Ok xs → check S key scratch bs ≡ Ok (checked S key bs xs)
   check_passed bs xs scratch hk hs is =
       let t1 : eqb (length key) 16 ≡ true = grind (arith, nat_tests) in
-      let t2 : leb 4096 scratch ≡ true = grind (arith, nat_tests) in
-      ap (λ z. cond z (cond (leb 4096 scratch) (and_then (check_bytes S key bs) (λ ys. Ok (checked S key bs ys))) (Err (fault 4 1 0 0))) (Err (fault 1 1 0 0))) t1
+      let t2 : leb 16 scratch ≡ true = grind (arith, nat_tests) in
+      ap (λ z. cond z (cond (leb 16 scratch) (and_then (check_bytes S key bs) (λ ys. Ok (checked S key bs ys))) (Err (fault 4 1 0 0))) (Err (fault 1 1 0 0))) t1
       ∙ ap (λ z. cond z (and_then (check_bytes S key bs) (λ ys. Ok (checked S key bs ys))) (Err (fault 4 1 0 0))) t2
       ∙ ap (λ z. and_then z (λ ys. Ok (checked S key bs ys))) is
 
@@ -104,7 +104,7 @@ module _ (S : Sealing) (L : Laws S) (key : List ℕ) where
 -- under one key no bytes read as two lists
 pub reads_once : (S : Sealing) → ReadsOnce S
 reads_once S key bs xs ys a b =
-    let same : a.card ≡ b.card = let p = a.passes 4096 (lit≤ tt) in let q = b.passes 4096 (lit≤ tt) in cc (p, q) in
+    let same : a.card ≡ b.card = let p = a.passes 16 (lit≤ tt) in let q = b.passes 16 (lit≤ tt) in cc (p, q) in
     let long : length xs ≡ length ys = sym a.counts ∙ ap (λ (c : Card). c.count) same ∙ b.counts in
     ext_get_or (a_sheet 0 0 []) xs ys long (λ i lt.
     let d = a_sheet 0 0 [] in
@@ -164,6 +164,6 @@ module _ (S : Sealing) (L : Laws S) (key : List ℕ) where
 
   pub reads_card : (bs : List ℕ) (sheets : List Sheet) → Octets bs → Reads S key bs sheets → FromCard bs sheets
   reads_card bs sheets o a =
-      let x = checked_back S key bs 4096 a.card (a.passes 4096 (lit≤ tt)) in
+      let x = checked_back S key bs 16 a.card (a.passes 16 (lit≤ tt)) in
       let y = passed_back S key bs a.card (check_bytes S key bs) x.1 in
       subst (FromCard bs) (reads_once S key bs y.0 sheets (passed_reads bs y.0 x.0 o y.1) a) (from_bytes bs y.0 o y.1)

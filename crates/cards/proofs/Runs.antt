@@ -2,7 +2,7 @@
 use Rattle.std.proofs.Common.{◌≡◌, ℕ, suc, ◌+◌, ◌≤◌, true, false, List, [], ◌∷◌, ◌++◌, length, take, drop, Some, Ok, Err, Result, sym, refl, ap, ◌∙◌, subst, arith}
 use Rattle.std.specs.List.{AllByRecursion}
 use Rattle.std.proofs.lemmas.List.{append_assoc, append-nil, length-append, length-drop, length_push}
-use Rattle.spoc.specs.Sealing.{Sealing, Laws}
+use Rattle.sealer.specs.Sealing.{Sealing, Laws}
 use Rattle.cards.specs.Faults.{Fault}
 use Rattle.cards.specs.Format.{Sheet, records, card, sheet_record, end_record}
 use Rattle.cards.specs.Plain.{Plain, count, started, next_nonce, append_answer, appended, close_answer, closed_medium, left_by}
@@ -76,13 +76,13 @@ module _ (S : Sealing) (L : Laws S) (key : List ℕ) (number : ℕ) where
       let y : P (close_answer S w) = subst P (sym is) ((refl, tt), refl) in
       record { all = y.0; size = k; closes = y.1 }
 
-  pub room_accepts : (xs : List Sheet) (w : Plain) → Kept S L key number w → AllByRecursion Fit xs → count w + length xs ≤ 512 → w.place + length (records S key (h S L key number) (count w) xs) + (9 + S.rate) ≤ length w.medium → Accepted w (to_write xs)
-  room_accepts [] w kept fit few room = close_accepted w (w.place + (9 + S.rate)) (close_passes S.rate (count w) w.place (length w.medium) kept.room)
+  pub room_accepts : (xs : List Sheet) (w : Plain) → Kept S L key number w → AllByRecursion Fit xs → count w + length xs ≤ 512 → w.place + length (records S key (h S L key number) (count w) xs) + (9 + S.width) ≤ length w.medium → Accepted w (to_write xs)
+  room_accepts [] w kept fit few room = close_accepted w (w.place + (9 + S.width)) (close_passes S.width (count w) w.place (length w.medium) kept.room)
   room_accepts (s ∷ xs) w kept fit few room =
       let hd = h S L key number in
       let a = length-append (sheet_record S key hd (count w) s) (records S key hd (suc (count w)) xs) in
       let b = sheet_length S L key number (count w) s in
-      let is = append_passes S.rate (count w) w.place (length s.body) (length w.medium) (omega arith) fit.0.body (omega arith) in
+      let is = append_passes S.width (count w) w.place (length s.body) (length w.medium) (omega arith) fit.0.body (omega arith) in
       let v : Plain = appended S w s in
       let m : length v.medium ≡ length w.medium = appended_length S L key number w kept s (omega arith) in
       let c : count v ≡ suc (count w) = length_push w.sheets s ∙ omega arith in
@@ -110,7 +110,7 @@ module _ (S : Sealing) (L : Laws S) (key : List ℕ) (number : ℕ) where
       let a = length-append hd (records S key hd 0 sheets ++ end_record S key hd (length sheets)) in
       let b = length-append (records S key hd 0 sheets) (end_record S key hd (length sheets)) in
       let e = end_length S L key number (length sheets) in
-      let room : 22 + S.rate ≤ length medium = omega arith in
+      let room : 22 + S.width ≤ length medium = omega arith in
       let w : Plain = started S key number medium in
       let kept = started_kept S L key number medium room in
       let l : length w.medium ≡ length medium = length-append hd (drop 13 medium) ∙ ap (λ i. 13 + i) (length-drop 13 medium) ∙ omega arith in

@@ -4,7 +4,7 @@ use Rattle.std.specs.List.{AllByRecursion}
 use Rattle.std.proofs.ByRecursion.{All-push}
 use Rattle.std.proofs.lemmas.List.{append_assoc, append-nil, length-append, length-take-le, length-drop, length_push, take_at}
 use Rattle.std.proofs.lemmas.Bool.Decides.{nat_tests}
-use Rattle.spoc.specs.Sealing.{Sealing, Laws}
+use Rattle.sealer.specs.Sealing.{Sealing, Laws}
 use Rattle.cards.specs.Format.{header, head, Sheet, sheet_record, end_record, records, card}
 use Rattle.cards.specs.Plain.{Plain, overwrite, count, started, start, append_questions, append_answer, appended, close_questions, close_answer, closed_medium}
 use Rattle.cards.proofs.Records.{Fit, sealed_length}
@@ -45,13 +45,13 @@ close_passes r n p m h = grind (arith, nat_tests)
 
 pub record StartPassed (S : Sealing) (k : List ℕ) (number : ℕ) (m : List ℕ) (w : Plain) : Type 0 where
   pub key : length k ≡ 16
-  pub room : 22 + S.rate ≤ length m
+  pub room : 22 + S.width ≤ length m
   pub is : started S k number m ≡ w
 
 pub start_passed : (S : Sealing) (k : List ℕ) (number : ℕ) (m : List ℕ) (w : Plain) → start S k number m ≡ Ok w → StartPassed S k number m w
 start_passed S k number m w h = record { key = grind (arith, nat_tests); room = grind (arith, nat_tests); is = grind (arith, nat_tests) }
 
-pub start_passes : (S : Sealing) (k : List ℕ) (number : ℕ) (m : List ℕ) → length k ≡ 16 → 22 + S.rate ≤ length m → start S k number m ≡ Ok (started S k number m)
+pub start_passes : (S : Sealing) (k : List ℕ) (number : ℕ) (m : List ℕ) → length k ≡ 16 → 22 + S.width ≤ length m → start S k number m ≡ Ok (started S k number m)
 start_passes S k number m hk hm = grind (arith, nat_tests)
 
 module _ (S : Sealing) (L : Laws S) (key : List ℕ) (number : ℕ) where
@@ -66,10 +66,10 @@ module _ (S : Sealing) (L : Laws S) (key : List ℕ) (number : ℕ) where
       ∙ sym (append_assoc (sheet_record S key h n x) (records S key h (suc n) xs) (sheet_record S key h (suc n + length xs) s))
       ∙ ap (λ i. (sheet_record S key h n x ++ records S key h (suc n) xs) ++ sheet_record S key h i s) e
 
-  pub sheet_length : (n : ℕ) (s : Sheet) → length (sheet_record S key h n s) ≡ 9 + length s.body + S.rate
+  pub sheet_length : (n : ℕ) (s : Sheet) → length (sheet_record S key h n s) ≡ 9 + length s.body + S.width
   sheet_length n s = sealed_length S L key h n (head 1 s.cell s.edition (length s.body)) s.body ∙ omega arith
 
-  pub end_length : (n : ℕ) → length (end_record S key h n) ≡ 9 + S.rate
+  pub end_length : (n : ℕ) → length (end_record S key h n) ≡ 9 + S.width
   end_length n = sealed_length S L key h n (head 2 n 0 0) [] ∙ omega arith
 
   -- the medium begins with the header and the records of the sheets that are kept, up to the place; there is room for an end record
@@ -79,9 +79,9 @@ module _ (S : Sealing) (L : Laws S) (key : List ℕ) (number : ℕ) where
     pub few : count w ≤ 512
     pub fit : AllByRecursion Fit w.sheets
     pub front : take w.place w.medium ≡ h ++ records S key h 0 w.sheets
-    pub room : w.place + (9 + S.rate) ≤ length w.medium
+    pub room : w.place + (9 + S.width) ≤ length w.medium
 
-  pub started_kept : (m : List ℕ) → 22 + S.rate ≤ length m → Kept (started S key number m)
+  pub started_kept : (m : List ℕ) → 22 + S.width ≤ length m → Kept (started S key number m)
   started_kept m hm =
       let l : length (h ++ drop 13 m) ≡ 13 + (length m - 13) = length-append h (drop 13 m) ∙ ap (λ i. 13 + i) (length-drop 13 m) in
       record { key_is = refl; header_is = refl; few = omega arith; fit = tt; front = take_at h (drop 13 m) 13 refl ∙ sym (append-nil h); room = omega arith }
@@ -93,17 +93,17 @@ module _ (S : Sealing) (L : Laws S) (key : List ℕ) (number : ℕ) where
     same_end : end_record S w.key w.header (count w) ≡ end_record S key h (count w)
     same_end = ap (λ (z : List ℕ). end_record S z w.header (count w)) kept.key_is ∙ ap (λ (z : List ℕ). end_record S key z (count w)) kept.header_is
 
-    pub appended_length : (s : Sheet) → w.place + (9 + length s.body + S.rate) ≤ length w.medium → length (appended S w s).medium ≡ length w.medium
+    pub appended_length : (s : Sheet) → w.place + (9 + length s.body + S.width) ≤ length w.medium → length (appended S w s).medium ≡ length w.medium
     appended_length s hm =
         let rec = sheet_record S w.key w.header (count w) s in
-        let l : length rec ≡ 9 + length s.body + S.rate = ap length (same_sheet s) ∙ sheet_length (count w) s in
+        let l : length rec ≡ 9 + length s.body + S.width = ap length (same_sheet s) ∙ sheet_length (count w) s in
         length_overwrite w.place rec w.medium (omega arith)
 
     pub appended_kept : (s : Sheet) (k : ℕ) → s.cell < 4294967296 → s.edition < 65536 → append_answer S w s ≡ Ok k → Kept (appended S w s)
     appended_kept s k hc he is =
-        let x = append_passed S.rate (count w) w.place (length s.body) (length w.medium) k is in
+        let x = append_passed S.width (count w) w.place (length s.body) (length w.medium) k is in
         let rec = sheet_record S w.key w.header (count w) s in
-        let l : length rec ≡ 9 + length s.body + S.rate = ap length (same_sheet s) ∙ sheet_length (count w) s in
+        let l : length rec ≡ 9 + length s.body + S.width = ap length (same_sheet s) ∙ sheet_length (count w) s in
         let m = appended_length s (omega (arith, x.room)) in
         let zero_on : 0 + count w ≡ count w = zero-add (count w) in
         record {
@@ -123,9 +123,9 @@ module _ (S : Sealing) (L : Laws S) (key : List ℕ) (number : ℕ) where
 
     pub closed_is : (n : ℕ) → close_answer S w ≡ Ok n → take n (closed_medium S w) ≡ card S key number w.sheets
     closed_is n is =
-        let e = close_passed S.rate (count w) w.place (length w.medium) n is in
+        let e = close_passed S.width (count w) w.place (length w.medium) n is in
         let rec = end_record S w.key w.header (count w) in
-        let l : length rec ≡ 9 + S.rate = ap length same_end ∙ end_length (count w) in
+        let l : length rec ≡ 9 + S.width = ap length same_end ∙ end_length (count w) in
         let n_is : n ≡ w.place + length rec = omega arith in
         ap (λ i. take i (closed_medium S w)) n_is
         ∙ take_overwrite w.place rec w.medium (omega (arith, kept.room))

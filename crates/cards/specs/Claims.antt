@@ -2,7 +2,7 @@
 use Rattle.std.specs.Prelude.{◌≡◌, ℕ, ◌^◌, ◌<◌, ◌≤◌, true, List, [], ◌∷◌, ◌++◌, map, length, get_or, take, is_ok, Some, Ok, Option, Result, slice_index_or}
 use Rattle.std.specs.List.{AllByRecursion}
 use Rattle.permutations.specs.Permutation.{Bytes}
-use Rattle.spoc.specs.Sealing.{Sealing, Octets}
+use Rattle.sealer.specs.Sealing.{Sealing, Octets}
 use Rattle.cards.specs.Faults.{Fault}
 use Rattle.cards.specs.Format.{Sheet}
 use Rattle.cards.specs.Plain.{Plain, start}
@@ -18,7 +18,7 @@ pub record Well (s : Sheet) : Type 0 where
 -- Bytes read as a list of sheets: scratch and buffers being long enough, check passes them, count is the list's length and sheet i gives its sheet i.
 pub record Reads (S : Sealing) (key bytes : List ℕ) (sheets : List Sheet) : Type 0 where
   pub card : Card
-  pub passes : (scratch : ℕ) → 4096 ≤ scratch → check S key scratch bytes ≡ Ok card
+  pub passes : (scratch : ℕ) → 16 ≤ scratch → check S key scratch bytes ≡ Ok card
   pub counts : card.count ≡ length sheets
   pub gives : (i buffer : ℕ) (d : Sheet) → i < length sheets → length (get_or sheets i d).body ≤ buffer → sheet_answer S card i buffer ≡ Ok (slice_index_or sheets i d)
 

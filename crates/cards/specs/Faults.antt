@@ -1,7 +1,7 @@
 -- What a fault says: its number, its layer, the record and the place. Assumes nothing.
 use Rattle.std.specs.Prelude.{ℕ, List, ◌++◌, Ok, Err, codes, decimal, Result}
-use Rattle.spoc.specs.Fault.{fault_number, fault_layer}
-use Rattle.spoc.specs.declared.SealFault.{SealFault}
+use Rattle.sealer.specs.Fault.{fault_number, fault_layer}
+use Rattle.sealer.specs.declared.SealFault.{SealFault}
 use Rattle.cards.specs.declared.fault.At.{At}
 use Rattle.cards.specs.declared.fault.RecordNo.{RecordNo}
 use Rattle.cards.specs.declared.fault.RecordNo.TheVariants as r

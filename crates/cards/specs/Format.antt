@@ -1,6 +1,6 @@
 -- The bytes of a card.
 use Rattle.std.specs.Prelude.{ℕ, suc, ◌/◌, ◌%◌, List, [], ◌∷◌, ◌++◌, length, drop}
-use Rattle.spoc.specs.Sealing.{Sealing}
+use Rattle.sealer.specs.Sealing.{Sealing}
 
 -- numbers of 2, 4 and 8 bytes, the highest byte first
 abbrev pub be2 : ℕ → List ℕ

@@ -1,6 +1,6 @@
 -- The plain writer: what it keeps, how it answers each call, and what a call leaves.
 use Rattle.std.specs.Prelude.{ℕ, ◌+◌, cond, List, [], ◌∷◌, ◌++◌, length, take, drop, Ok, Err, Result, ◌==◌, nat_le, nat_lt}
-use Rattle.spoc.specs.Sealing.{Sealing}
+use Rattle.sealer.specs.Sealing.{Sealing}
 use Rattle.cards.specs.Faults.{Fault, fault}
 use Rattle.cards.specs.Format.{Sheet, header, nonce, sheet_record, end_record}
 
@@ -37,7 +37,7 @@ started S k number m =
 abbrev pub start : Sealing → List ℕ → ℕ → List ℕ → Result Plain Fault
 start S k number m =
     cond (length k == 16)
-    (cond (nat_le (13 + 9 + S.rate) (length m))
+    (cond (nat_le (13 + 9 + S.width) (length m))
     (Ok (started S k number m))
     (Err (fault 9 3 0 0)))
     (Err (fault 1 1 0 0))
@@ -58,7 +58,7 @@ append_questions r n p b m =
     (Err (fault 8 2 n p))
 
 abbrev pub append_answer : Sealing → Plain → Sheet → Result ℕ Fault
-append_answer S w s = append_questions S.rate (count w) w.place (length s.body) (length w.medium)
+append_answer S w s = append_questions S.width (count w) w.place (length s.body) (length w.medium)
 
 -- after an accepted append
 abbrev pub appended : Sealing → Plain → Sheet → Plain
@@ -67,14 +67,14 @@ appended S w s = record {
   header = w.header;
   medium = overwrite w.place (sheet_record S w.key w.header (count w) s) w.medium;
   sheets = w.sheets ++ s ∷ [];
-  place = w.place + (9 + length s.body + S.rate);
+  place = w.place + (9 + length s.body + S.width);
 }
 
 abbrev pub close_questions : ℕ → ℕ → ℕ → ℕ → Result ℕ Fault
 close_questions r n p m = cond (nat_le (p + (9 + r)) m) (Ok (p + (9 + r))) (Err (fault 9 3 n p))
 
 abbrev pub close_answer : Sealing → Plain → Result ℕ Fault
-close_answer S w = close_questions S.rate (count w) w.place (length w.medium)
+close_answer S w = close_questions S.width (count w) w.place (length w.medium)
 
 -- the medium after an accepted close
 abbrev pub closed_medium : Sealing → Plain → List ℕ

@@ -2,7 +2,7 @@
 use Rattle.std.specs.Prelude.{◌≡◌, ℕ, zero, suc, ◌+◌, ◌*◌, ◌<◌, ◌≤◌, cond, ◌&&◌, List, [], ◌∷◌, ◌++◌, length, take, drop, replicate, Some, None, Ok, Err, Option, Result, ◌==◌, ◌≢◌, nat_le, nat_lt, slice_index}
 use Rattle.std.specs.List.{between}
 use Rattle.std.specs.Str.{bytes_eq}
-use Rattle.spoc.specs.Sealing.{Sealing}
+use Rattle.sealer.specs.Sealing.{Sealing}
 use Rattle.cards.specs.Faults.{Fault, fault, and_then}
 use Rattle.cards.specs.Format.{mark, nonce, Sheet, a_sheet}
 
@@ -71,7 +71,7 @@ opened S key h n p hd (sheet c e b t) = unseal (S.opens key (nonce h n) (h ++ hd
 opened S key h n p hd (last t) = unseal (S.opens key (nonce h n) (h ++ hd) [] t) (λ m. None) (fault 6 1 n (p + 9))
 
 abbrev pub read_record : Sealing → List ℕ → List ℕ → ℕ → ℕ → List ℕ → Result (Option Sheet) Fault
-read_record S key h n p rest = and_then (parse S.rate n p rest) (opened S key h n p (head_of rest))
+read_record S key h n p rest = and_then (parse S.width n p rest) (opened S key h n p (head_of rest))
 
 -- what comes after record n: after a sheet `next` goes on, so many bytes further; after the end record no byte may be left
 abbrev pub follow : ℕ → ℕ → ℕ → List ℕ → (ℕ → Result (List Sheet) Fault) → Option Sheet → Result (List Sheet) Fault
@@ -80,9 +80,9 @@ follow r n p rest next None = cond (length rest == 9 + r) (Ok []) (Err (fault 15
 
 -- record by record: `left` more sheets may come, n is the number of the record at the front and p its place. Where none may come, parse has refused a sheet.
 unfoldable pub walk : Sealing → List ℕ → List ℕ → ℕ → ℕ → ℕ → List ℕ → Result (List Sheet) Fault
-walk S key h zero n p rest = and_then (read_record S key h n p rest) (follow S.rate n p rest (λ _. Err (fault 8 2 n p)))
+walk S key h zero n p rest = and_then (read_record S key h n p rest) (follow S.width n p rest (λ _. Err (fault 8 2 n p)))
 walk S key h (suc left) n p rest =
-    and_then (read_record S key h n p rest) (follow S.rate n p rest (λ k. walk S key h left (suc n) (p + k) (drop k rest)))
+    and_then (read_record S key h n p rest) (follow S.width n p rest (λ k. walk S key h left (suc n) (p + k) (drop k rest)))
 
 -- how many sheets the walk gives, after n before it
 abbrev pub how_many : ℕ → Result (List Sheet) Fault → Result ℕ Fault
@@ -107,37 +107,37 @@ pub record Card : Type 0 where
   pub bytes : List ℕ
   pub key : List ℕ
   pub version : ℕ
-  pub rate : ℕ
+  pub width : ℕ
   pub count : ℕ
 
 abbrev pub checked : Sealing → List ℕ → List ℕ → List Sheet → Card
-checked S k bs xs = record { bytes = bs; key = k; version = S.version; rate = S.rate; count = length xs }
+checked S k bs xs = record { bytes = bs; key = k; version = S.version; width = S.width; count = length xs }
 
 -- all questions of check, with a scratch of so many bytes
 abbrev pub check : Sealing → List ℕ → ℕ → List ℕ → Result Card Fault
 check S key scratch bs =
     cond (length key == 16)
-    (cond (nat_le 4096 scratch)
+    (cond (nat_le 16 scratch)
     (and_then (check_bytes S key bs) (λ xs. Ok (checked S key bs xs)))
     (Err (fault 4 1 0 0)))
     (Err (fault 1 1 0 0))
 
 -- the empty card
 abbrev pub empty : Card
-empty = record { bytes = []; key = replicate 16 0; version = 0; rate = 0; count = 0 }
+empty = record { bytes = []; key = replicate 16 0; version = 0; width = 0; count = 0 }
 
 -- the card that check leaves
 abbrev pub filled : Result Card Fault → Card
 filled (Ok c) = c
 filled (Err f) = empty
 
--- the scratch with its first 4,096 bytes zero
+-- the scratch with its first 16 bytes zero
 unfoldable pub wiped : List ℕ → List ℕ
-wiped s = replicate 4096 0 ++ drop 4096 s
+wiped s = replicate 16 0 ++ drop 16 s
 
 -- the scratch that check leaves: it is touched only past questions 1 and 4
 abbrev pub scratch_after : List ℕ → List ℕ → List ℕ
-scratch_after key s = cond (length key == 16) (cond (nat_le 4096 (length s)) (wiped s) s) s
+scratch_after key s = cond (length key == 16) (cond (nat_le 16 (length s)) (wiped s) s) s
 
 -- where record i begins
 abbrev pub place_of : ℕ → List ℕ → ℕ → ℕ
@@ -148,14 +148,14 @@ place_of r bs (suc i) = let p = place_of r bs i in p + (9 + length_of (drop p bs
 abbrev pub sheet_at : Sealing → List ℕ → List ℕ → ℕ → ℕ → List ℕ → ℕ → Result Sheet Fault
 sheet_at S key h i p rest buffer =
     cond (nat_le (length_of rest) buffer)
-    (unseal (S.opens key (nonce h i) (h ++ head_of rest) (body_of rest) (tag_of S.rate rest)) (λ m. a_sheet (cell_of rest) (edition_of rest) m) (fault 6 1 i (p + 9)))
+    (unseal (S.opens key (nonce h i) (h ++ head_of rest) (body_of rest) (tag_of S.width rest)) (λ m. a_sheet (cell_of rest) (edition_of rest) m) (fault 6 1 i (p + 9)))
     (Err (fault 4 1 i (p + 9)))
 
 -- all questions of sheet i
 abbrev pub sheet_answer : Sealing → Card → ℕ → ℕ → Result Sheet Fault
 sheet_answer S c i buffer =
-    let p = place_of c.rate c.bytes i in
-    cond (c.version == S.version && c.rate == S.rate)
+    let p = place_of c.width c.bytes i in
+    cond (c.version == S.version && c.width == S.width)
     (cond (nat_lt i c.count)
     (sheet_at S c.key (take 13 c.bytes) i p (drop p c.bytes) buffer)
     (Err (fault 16 3 i 0)))
@@ -168,19 +168,19 @@ body_or_zeros None n = replicate n 0
 
 abbrev pub sheet_buffer : Sealing → Card → ℕ → List ℕ → List ℕ
 sheet_buffer S c i buffer =
-    let p = place_of c.rate c.bytes i in
+    let p = place_of c.width c.bytes i in
     let rest = drop p c.bytes in
     let h = take 13 c.bytes in
-    cond (c.version == S.version && (c.rate == S.rate && (nat_lt i c.count && nat_le (length_of rest) (length buffer))))
-    (body_or_zeros (S.opens c.key (nonce h i) (h ++ head_of rest) (body_of rest) (tag_of S.rate rest)) (length_of rest) ++ drop (length_of rest) buffer)
+    cond (c.version == S.version && (c.width == S.width && (nat_lt i c.count && nat_le (length_of rest) (length buffer))))
+    (body_or_zeros (S.opens c.key (nonce h i) (h ++ head_of rest) (body_of rest) (tag_of S.width rest)) (length_of rest) ++ drop (length_of rest) buffer)
     buffer
 
 -- cell and edition of sheet i
 abbrev pub cell_at : Card → ℕ → ℕ
-cell_at c i = cell_of (drop (place_of c.rate c.bytes i) c.bytes)
+cell_at c i = cell_of (drop (place_of c.width c.bytes i) c.bytes)
 
 abbrev pub edition_at : Card → ℕ → ℕ
-edition_at c i = edition_of (drop (place_of c.rate c.bytes i) c.bytes)
+edition_at c i = edition_of (drop (place_of c.width c.bytes i) c.bytes)
 
 -- of the first n, sheet i has the cell and the highest edition, and is the first among equals
 pub record Latest (n : ℕ) (cells editions : ℕ → ℕ) (cell i : ℕ) : Type 0 where

@@ -1,6 +1,6 @@
 -- Whole runs of the plain writer.
 use Rattle.std.specs.Prelude.{ℕ, List, [], ◌∷◌, Some, None, Ok, Err, Option, Result, ◌≢◌}
-use Rattle.spoc.specs.Sealing.{Sealing}
+use Rattle.sealer.specs.Sealing.{Sealing}
 use Rattle.cards.specs.Faults.{Fault}
 use Rattle.cards.specs.Format.{Sheet}
 use Rattle.cards.specs.Plain.{Plain, next_nonce, append_answer, appended, close_answer, closed_medium, left_by}

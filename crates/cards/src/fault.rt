@@ -3,7 +3,7 @@ ghost use Rattle.cards.specs.Faults.{at, record_number, card_number, of_card, re
 ghost use Rattle.cards.specs.declared.fault.CardFault.TheVariants as card;
 ghost use Rattle.cards.specs.declared.fault.RecordFault.TheVariants as rec;
 
-use spoc::SealFault;
+use sealer::SealFault;
 use std::error::Error;
 use std::fmt;
 
@@ -79,7 +79,7 @@ pub enum CardNo {
     Cut = 10,
     // The mark is not SEA.
     Mark = 11,
-    // The version is not the suite's, or of a checked card the rate.
+    // The version is not the suite's, or of a checked card the width.
     Version = 12,
     // Bytes are left after the end record.
     Left = 15,

@@ -10,6 +10,7 @@ use Rattle.cards.specs.Faults.{Fault, fault}
 use Rattle.cards.specs.Plain.{Plain, start, started, append_questions, close_questions, close_answer, closed_medium, left_by}
 use Rattle.cards.specs.Runs.{ended, closing}
 use Rattle.writer.specs.Stands.{Stands, Starts}
+use Rattle.spoc_sealer.specs.declared.Spoc.{Spoc}
 use Rattle.writer.specs.declared.Writer.{Writer}
 use Rattle.known.specs.Known.{bench_cipher, bench_key, bench_number, bare_card, bare_answer, bare_medium, OneByte}
 
@@ -55,12 +56,12 @@ one_byte n h m c e b long = ap (λ k. append_questions 8 0 13 1 k) (started_leng
 abbrev starting : Bool → List ℕ → Result Plain Fault
 starting b m = cond b (Ok (writer m)) (Err (fault 9 3 0 0))
 
-start_accepted : (b : Bool) (x : Writer 32 Bench) (now m : List ℕ) → Starts (Ok x) now (starting b m) → (b ≡ true) × Stands x now (writer m)
+start_accepted : (b : Bool) (x : Writer (Spoc 32 Bench)) (now m : List ℕ) → Starts (Ok x) now (starting b m) → (b ≡ true) × Stands x now (writer m)
 start_accepted true x now m h = (refl, h)
 start_accepted false x now m h = absurd h
 
 -- what close answers after an accepted start, and the medium that it leaves
-pub closed : (x : Writer 32 Bench) (a : Result ℕ Fault) (now new m : List ℕ)
+pub closed : (x : Writer (Spoc 32 Bench)) (a : Result ℕ Fault) (now new m : List ℕ)
     → Starts (Ok x) now (start bench_cipher bench_key bench_number m)
     → ((w : Plain) → Stands x now w → (a ≡ close_answer bench_cipher w) × (new ≡ left_by (close_answer bench_cipher w) (closed_medium bench_cipher w) w.medium))
     → (a ≡ bare_answer m) × (new ≡ bare_medium m)

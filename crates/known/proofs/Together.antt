@@ -28,11 +28,11 @@ known_bytes = record {
   written = bare_gives;
   reads = record {
     card = checked bench_cipher bench_key bare_card [];
-    passes = λ n long. ap (λ t. cond t (Ok (checked bench_cipher bench_key bare_card [])) (Err (fault 4 1 0 0))) (le-leb 4096 n long);
+    passes = λ n long. ap (λ t. cond t (Ok (checked bench_cipher bench_key bare_card [])) (Err (fault 4 1 0 0))) (le-leb 16 n long);
     counts = refl;
     gives = λ i buffer d below long. absurd (omega arith);
   };
-  spoilt = λ n long. ap (λ t. cond t (Err (fault 6 1 0 22)) (Err (fault 4 1 0 0))) (le-leb 4096 n long);
+  spoilt = λ n long. ap (λ t. cond t (Err (fault 6 1 0 22)) (Err (fault 4 1 0 0))) (le-leb 16 n long);
   starts = λ m long. ap is_ok (start_is m (omega arith));
   appends = one_byte 48 (lit≤ tt);
   refuses = one_byte 47 (lit≤ tt);

@@ -4,7 +4,8 @@ use Rattle.permutations.specs.Bench.{bench}
 use Rattle.permutations.specs.Known.{KnownStates}
 use Rattle.spoc.specs.Bench.{bench_plan}
 use Rattle.spoc.specs.Known.{eight, BenchExamples}
-use Rattle.spoc.specs.Sealing.{Sealing, spoc}
+use Rattle.sealer.specs.Sealing.{Sealing}
+use Rattle.spoc.specs.Sealing.{spoc}
 use Rattle.cards.specs.Claims.{Gives, Reads}
 use Rattle.cards.specs.Faults.{Fault, fault}
 use Rattle.cards.specs.Format.{a_sheet}
@@ -50,7 +51,7 @@ pub record KnownBytes : Type 0 where
   -- check passes the card, and its count is 0
   pub reads : Reads bench_cipher bench_key bare_card []
   -- with 03 for its last byte, the tag of record 0, at place 22, disagrees
-  pub spoilt : (scratch : ℕ) → 4096 ≤ scratch → check bench_cipher bench_key scratch (bare_ending 0x03) ≡ Err (fault 6 1 0 22)
+  pub spoilt : (scratch : ℕ) → 16 ≤ scratch → check bench_cipher bench_key scratch (bare_ending 0x03) ≡ Err (fault 6 1 0 22)
   -- 30 bytes are enough to start
   pub starts : (medium : List ℕ) → length medium ≡ 30 → is_ok (start bench_cipher bench_key bench_number medium) ≡ true
   -- 48 bytes are enough for a body of one byte, as record 0

@@ -2,7 +2,7 @@
 use Rattle.std.proofs.Common.{◌≡◌, ℕ, ◌<◌, true, eqb, List, ◌++◌, length, get_or, Ok, Err, Result, sym, refl, ap, ◌∙◌, arith, le_refl}
 use Rattle.std.proofs.ByRecursion.{All-get_or}
 use Rattle.std.proofs.lemmas.Bool.Decides.{nat_tests}
-use Rattle.spoc.specs.Sealing.{Sealing, Laws, Octets}
+use Rattle.sealer.specs.Sealing.{Sealing, Laws, Octets}
 use Rattle.cards.specs.Faults.{Fault, and_then}
 use Rattle.cards.specs.Format.{Sheet}
 use Rattle.cards.specs.Reader.{Card, check, check_bytes, checked, filled, sheet_answer}
@@ -14,7 +14,7 @@ use Rattle.lister.proofs.Lines.{nothing}
 use Rattle.lister.specs.Printed.{sheet_lines, card_line, listed, Holds}
 
 module _ (S : Sealing) (key bs : List ℕ) (hk : length key ≡ 16) where
-  goes_on : check S key 4096 bs ≡ and_then (check_bytes S key bs) (λ xs. Ok (checked S key bs xs))
+  goes_on : check S key 16 bs ≡ and_then (check_bytes S key bs) (λ xs. Ok (checked S key bs xs))
   goes_on =
       let t : eqb (length key) 16 ≡ true = grind (arith, nat_tests) in
       rw t refl
@@ -23,7 +23,7 @@ module _ (S : Sealing) (key bs : List ℕ) (hk : length key ≡ 16) where
   refusal (Ok xs) f e = absurd (let z : ◌≡◌ {A = ℕ} 0 1 = cc in omega arith)
   refusal (Err f') f e = ap Err (cc)
 
-  pub listed_refused : (number : ℕ) (f : Fault) → Err f ≡ passes (check S key 4096 bs) → listed S key number bs ≡ Err f
+  pub listed_refused : (number : ℕ) (f : Fault) → Err f ≡ passes (check S key 16 bs) → listed S key number bs ≡ Err f
   unfolding listed
   listed_refused number f e = ap (λ o. and_then o (λ xs. Ok (card_line number S.version (length xs) ++ sheet_lines 0 xs))) (refusal (check_bytes S key bs) f (e ∙ ap passes goes_on))
 
@@ -34,18 +34,18 @@ module _ (S : Sealing) (key bs : List ℕ) (hk : length key ≡ 16) where
   pub record Listed (number : ℕ) : Type 0 where
     pub sheets : List Sheet
     pub text : listed S key number bs ≡ Ok (card_line number S.version (length sheets) ++ sheet_lines 0 sheets)
-    pub card : filled (check S key 4096 bs) ≡ checked S key bs sheets
+    pub card : filled (check S key 16 bs) ≡ checked S key bs sheets
     pub holds : Holds S (checked S key bs sheets) sheets
 
-  pub listed_passed : Laws S → Octets bs → (number : ℕ) → Ok tt ≡ passes (check S key 4096 bs) → Listed number
+  pub listed_passed : Laws S → Octets bs → (number : ℕ) → Ok tt ≡ passes (check S key 16 bs) → Listed number
   unfolding listed
   listed_passed L o number e =
       let x = passed (check_bytes S key bs) (e ∙ ap passes goes_on) in
       let xs = x.0 in
       let f = from_bytes S L key bs xs o x.1 in
       let r = passed_reads S L key bs xs hk o x.1 in
-      let is : check S key 4096 bs ≡ Ok (checked S key bs xs) = goes_on ∙ ap (λ z. and_then z (λ ys. Ok (checked S key bs ys))) x.1 in
-      let same : r.card ≡ checked S key bs xs = let p = r.passes 4096 (le_refl 4096) in cc (p, is) in
+      let is : check S key 16 bs ≡ Ok (checked S key bs xs) = goes_on ∙ ap (λ z. and_then z (λ ys. Ok (checked S key bs ys))) x.1 in
+      let same : r.card ≡ checked S key bs xs = let p = r.passes 16 (le_refl 16) in cc (p, is) in
       record {
         sheets = xs;
         text = ap (λ z. and_then z (λ ys. Ok (card_line number S.version (length ys) ++ sheet_lines 0 ys))) x.1;

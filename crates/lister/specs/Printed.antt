@@ -6,7 +6,8 @@ use Rattle.permutations.specs.Bench.{bench}
 use Rattle.permutations.specs.Light.{light_192, light_256}
 use Rattle.spoc.specs.Bench.{bench_plan}
 use Rattle.spoc.specs.Name.{suite_of}
-use Rattle.spoc.specs.Sealing.{Sealing, spoc}
+use Rattle.sealer.specs.Sealing.{Sealing}
+use Rattle.spoc.specs.Sealing.{spoc}
 use Rattle.spoc.specs.Spoc64.{spoc_64}
 use Rattle.spoc.specs.Spoc128.{spoc_128}
 use Rattle.spoc.specs.declared.NoSuchVersion.{NoSuchVersion}

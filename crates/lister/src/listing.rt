@@ -1,5 +1,4 @@
 ghost use Rattle.std.specs.Prelude.{◌≡◌, List, ◌++◌, IfOk, Ok, Some, string_bytes};
-ghost use Rattle.spoc.specs.Sealing.{spoc as spoc_of};
 ghost use Rattle.cards.specs.Faults.{at, told};
 ghost use Rattle.cards.specs.Format.{Sheet};
 ghost use Rattle.cards.specs.declared.CardFault.TheVariants as card;
@@ -11,7 +10,9 @@ ghost use Rattle.lister.specs.Printed.{card_line, sheet_line, sheet_lines, liste
 use cards::{CardFault, CardNo, HEADER_BYTES, MARK, MOST_BODY};
 use permutations::Bench;
 use reader::{Card, SheetHead, check, sheet};
-use spoc::{NoSuchVersion, SealFault, Spoc64, Spoc128, Suite, SuiteName};
+use sealer::{SealFault, Sealer};
+use spoc::{NoSuchVersion, Spoc64, Spoc128, SuiteName};
+use spoc_sealer::Spoc;
 use std::alloc::{AllocError, Global};
 use std::fmt;
 use std::fmt::Write;
@@ -122,15 +123,12 @@ impl fmt::Display for SheetLine {
 
 // A card's lines, with those of its sheets after the text. Sheets are asked for by their numbers.
 #[tactic(auto, using(crate::proofs::Lines::text_none, crate::proofs::Lines::text_more, crate::proofs::Passing::shows))]
-fn list_sheets<const B: usize, S: Suite<B>>(
-    card: &Card<'_>,
-    mut text: String,
-) -> Result<String, Unlisted>
-    ensures { (xs : List Sheet) → Holds (spoc_of S.Bijection.meaning S.SuiteModel.plan) (shown card.now) xs → Says result (Ok (string_bytes text ++ sheet_lines 0 xs)) }
+fn list_sheets<C: Sealer>(card: &Card<'_>, mut text: String) -> Result<String, Unlisted>
+    ensures { (xs : List Sheet) → Holds C.meaning (shown card.now) xs → Says result (Ok (string_bytes text ++ sheet_lines 0 xs)) }
 {
     let mut buffer = [0; MOST_BODY];
     for i in 0..card.count() {
-        let head = sheet::<B, S>(card, i, &mut buffer)?;
+        let head = sheet::<C>(card, i, &mut buffer)?;
         let line = SheetLine { i, head };
         write!(text, "{line}")?;
     }
@@ -138,23 +136,23 @@ fn list_sheets<const B: usize, S: Suite<B>>(
 }
 
 // What is printed of a card under a suite.
-fn list_under<const B: usize, S: Suite<B>>(
+fn list_under<C: Sealer>(
     heap: Global,
     key: &[u8; 16],
     number: u64,
     bytes: &[u8],
 ) -> Result<String, Unlisted>
-    ensures { Says result (listed (spoc_of S.Bijection.meaning S.SuiteModel.plan) key.now number bytes.now) }
+    ensures { Says result (listed C.meaning key.now number bytes.now) }
 {
-    let mut scratch = [0; MOST_BODY];
+    let mut scratch = [0; 16];
     let mut card = Card::empty();
-    check::<B, S>(key, bytes, &mut scratch, &mut card)?;
+    check::<C>(key, bytes, &mut scratch, &mut card)?;
     let line = CardLine {
         number,
-        version: S::VERSION,
+        version: C::VERSION,
         sheets: card.count(),
     };
-    list_sheets::<B, S>(&card, line.to_string(heap)?)
+    list_sheets::<C>(&card, line.to_string(heap)?)
 }
 
 // What is printed of a card: its version picks the suite.
@@ -163,9 +161,9 @@ fn list_card(heap: Global, key: &[u8; 16], bytes: &[u8]) -> Result<String, Unlis
 {
     let Header { version, number } = Header::try_from(bytes)?;
     match SuiteName::try_from(u64::from(version))? {
-        SuiteName::Spoc64 => list_under::<24, Spoc64>(heap, key, number, bytes),
-        SuiteName::Spoc128 => list_under::<32, Spoc128>(heap, key, number, bytes),
-        SuiteName::Bench => list_under::<32, Bench>(heap, key, number, bytes),
+        SuiteName::Spoc64 => list_under::<Spoc<24, Spoc64>>(heap, key, number, bytes),
+        SuiteName::Spoc128 => list_under::<Spoc<32, Spoc128>>(heap, key, number, bytes),
+        SuiteName::Bench => list_under::<Spoc<32, Bench>>(heap, key, number, bytes),
     }
 }
 

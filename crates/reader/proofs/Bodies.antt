@@ -1,7 +1,7 @@
 -- A sheet's body opened into a buffer.
 use Rattle.std.proofs.Common.{◌≡◌, ℕ, ◌+◌, ◌<◌, ◌≤◌, Bool, true, false, cond, eqb, ltb, leb, List, ◌++◌, length, take, drop, Some, None, Ok, Err, Option, Result, sym, refl, ap, ◌∙◌, arith}
 use Rattle.std.proofs.lemmas.Bool.Decides.{nat_tests}
-use Rattle.spoc.specs.Sealing.{Sealing, Laws}
+use Rattle.sealer.specs.Sealing.{Sealing, Laws}
 use Rattle.cards.specs.Faults.{Fault, fault, and_then}
 use Rattle.cards.specs.Format.{Sheet, a_sheet, nonce}
 use Rattle.cards.specs.Reader.{Card, check, unseal, place_of, sheet_answer, sheet_at, cell_of, edition_of, length_of, head_of, body_of, tag_of}
@@ -18,19 +18,19 @@ head_told true None c e l f f' sized = refl
 head_told false z c e l f f' sized = refl
 
 -- the body of the sheet at the front opened into a buffer of o bytes
-pub sheet_told : (S : Sealing) (L : Laws S) (key h rest : List ℕ) (i p o : ℕ) (a : Result (Unit {0}) Fault) → 9 + length_of rest + S.rate ≤ length rest → a ≡ open_answer (opening S key h i rest) (length (body_of rest)) o i (p + 9) → and_then a (λ _. Ok (fields rest)) ≡ headed (sheet_at S key h i p rest o)
+pub sheet_told : (S : Sealing) (L : Laws S) (key h rest : List ℕ) (i p o : ℕ) (a : Result (Unit {0}) Fault) → 9 + length_of rest + S.width ≤ length rest → a ≡ open_answer (opening S key h i rest) (length (body_of rest)) o i (p + 9) → and_then a (λ _. Ok (fields rest)) ≡ headed (sheet_at S key h i p rest o)
 sheet_told S L key h rest i p o a w is =
-    let size = body_length S.rate rest w in
-    let sized : (m : List ℕ) → opening S key h i rest ≡ Some m → length m ≡ length_of rest = λ m e. opened_length S L key (nonce h i) (h ++ head_of rest) (body_of rest) (tag_of S.rate rest) m e ∙ size in
+    let size = body_length S.width rest w in
+    let sized : (m : List ℕ) → opening S key h i rest ≡ Some m → length m ≡ length_of rest = λ m e. opened_length S L key (nonce h i) (h ++ head_of rest) (body_of rest) (tag_of S.width rest) m e ∙ size in
     ap (λ z. and_then z (λ _. Ok (fields rest))) (is ∙ ap (λ k. open_answer (opening S key h i rest) k o i (p + 9)) size)
     ∙ head_told (leb (length_of rest) o) (opening S key h i rest) (cell_of rest) (edition_of rest) (length_of rest) (fault 6 1 i (p + 9)) (fault 4 1 i (p + 9)) sized
 
--- past the questions on version, rate and number
-module _ (S : Sealing) (c : Card) (i : ℕ) (hv : c.version ≡ S.version) (hr : c.rate ≡ S.rate) (hi : i < c.count) where
+-- past the questions on version, width and number
+module _ (S : Sealing) (c : Card) (i : ℕ) (hv : c.version ≡ S.version) (hr : c.width ≡ S.width) (hi : i < c.count) where
   abbrev at : ℕ
-  at = place_of c.rate c.bytes i
+  at = place_of c.width c.bytes i
 
-  tests : (eqb c.version S.version ≡ true) × (eqb c.rate S.rate ≡ true) × (ltb i c.count ≡ true)
+  tests : (eqb c.version S.version ≡ true) × (eqb c.width S.width ≡ true) × (ltb i c.count ≡ true)
   tests = (grind (arith, nat_tests), grind (arith, nat_tests), grind (arith, nat_tests))
 
   pub answer_passes : (o : ℕ) → sheet_answer S c i o ≡ sheet_at S c.key (take 13 c.bytes) i at (drop at c.bytes) o

@@ -11,11 +11,11 @@ use Rattle.reader.specs.declared.rest.Rest.{Rest}
 use Rattle.reader.specs.Sheets.{GivesSheet}
 
 abbrev pub place : Card → ℕ → ℕ
-place c i = place_of c.rate c.bytes.now i
+place c i = place_of c.width c.bytes.now i
 
 within : (c : Card) (i : ℕ) → i < c.count → place c (suc i) ≤ length c.bytes.now
 within c i h =
-    place_within c.rate c.bytes.now c.count i
+    place_within c.width c.bytes.now c.count i
     (c.runs (⊎_elim (λ some. some) (λ none. let z = c.none (omega arith) in absurd (omega arith)) (order 0 (length c.bytes.now))))
     (omega arith)
 
@@ -26,22 +26,22 @@ pub record From (c : Card) (i : ℕ) (x : Rest) : Type 0 where
   pub bytes : x.bytes.now ≡ drop (place c i) c.bytes.now
 
 module _ (c : Card) (i : ℕ) (x : Rest) (at : From c i x) where
-  pub fits : i < c.count → 9 + length_of x.bytes.now + c.rate ≤ length x.bytes.now
-  fits h = subst (λ (xs : List ℕ). 9 + length_of xs + c.rate ≤ length xs) (sym at.bytes) (omega (arith, within c i h, length-drop (place c i) c.bytes.now))
+  pub fits : i < c.count → 9 + length_of x.bytes.now + c.width ≤ length x.bytes.now
+  fits h = subst (λ (xs : List ℕ). 9 + length_of xs + c.width ≤ length xs) (sym at.bytes) (omega (arith, within c i h, length-drop (place c i) c.bytes.now))
 
 -- an iterator of the sheets holds a rest of its card
 held : (s : Sheets) → From s.card.now s.rest.number s.rest
 held s = record { number = refl; place_is = s.place; bytes = s.bytes }
 
-pub held_fits : (s : Sheets) → s.rest.number < s.card.now.count → 9 + length_of s.rest.bytes.now + s.card.now.rate ≤ length s.rest.bytes.now
+pub held_fits : (s : Sheets) → s.rest.number < s.card.now.count → 9 + length_of s.rest.bytes.now + s.card.now.width ≤ length s.rest.bytes.now
 held_fits s = fits s.card.now s.rest.number s.rest (held s)
 
 -- and so is the rest after that
-pub after_held : (s : Sheets) (y : Rest) (k : ℕ) → k ≡ 9 + length_of s.rest.bytes.now + s.card.now.rate → y.bytes.now ≡ drop k s.rest.bytes.now → y.number ≡ s.rest.number + 1 → y.place ≡ s.rest.place + k → From s.card.now y.number y
+pub after_held : (s : Sheets) (y : Rest) (k : ℕ) → k ≡ 9 + length_of s.rest.bytes.now + s.card.now.width → y.bytes.now ≡ drop k s.rest.bytes.now → y.number ≡ s.rest.number + 1 → y.place ≡ s.rest.place + k → From s.card.now y.number y
 after_held s y k e eb en ep =
     let c = s.card.now in
     let x = s.rest in
-    let size : x.place + k ≡ place c y.number = ap (λ j. x.place + j) (e ∙ ap (λ (xs : List ℕ). 9 + length_of xs + c.rate) s.bytes) ∙ ap (λ q. q + (9 + length_of (drop (place c x.number) c.bytes.now) + c.rate)) s.place ∙ ap (place c) (sym (en ∙ add-one x.number)) in
+    let size : x.place + k ≡ place c y.number = ap (λ j. x.place + j) (e ∙ ap (λ (xs : List ℕ). 9 + length_of xs + c.width) s.bytes) ∙ ap (λ q. q + (9 + length_of (drop (place c x.number) c.bytes.now) + c.width)) s.place ∙ ap (place c) (sym (en ∙ add-one x.number)) in
     record {
       number = refl;
       place_is = ep ∙ size;
@@ -66,4 +66,4 @@ nth_is c i s (Some x) u same first h ran =
     subst (λ (d : Card). From d i x) (on.0 ∙ same) (subst (λ j. From t.card.now j x) n (subst (From t.card.now t.rest.number) (sym ran.1.2.1.0) (held t)))
 
 pub header_long : (c : Card) (i : ℕ) → i < c.count → 13 ≤ length c.bytes.now
-header_long c i h = omega (arith, within c i h, place_low c.rate c.bytes.now (suc i))
+header_long c i h = omega (arith, within c i h, place_low c.width c.bytes.now (suc i))

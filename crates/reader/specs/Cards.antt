@@ -6,7 +6,7 @@ use Rattle.reader.specs.declared.card.Card as code
 
 -- what a card holds
 abbrev pub shown : code.Card → Card
-shown c = record { bytes = c.bytes.now; key = c.key; version = c.version; rate = c.rate; count = c.count }
+shown c = record { bytes = c.bytes.now; key = c.key; version = c.version; width = c.width; count = c.count }
 
 -- an answer of check with the card left out
 abbrev pub passes : Result Card Fault → Result (Unit {0}) Fault

@@ -1,6 +1,6 @@
 -- What the program's answers say. Assumes nothing.
 use Rattle.std.specs.Prelude.{ℕ, ◌+◌, cond, ◌&&◌, List, [], ◌++◌, length, drop, Ok, Err, Option, Result, ◌==◌, nat_le, nat_lt}
-use Rattle.spoc.specs.Sealing.{Sealing}
+use Rattle.sealer.specs.Sealing.{Sealing}
 use Rattle.cards.specs.Faults.{Fault, fault, and_then, of_record}
 use Rattle.cards.specs.Reader.{Record, sheet, last, parse, opened, head_of, cell_of, edition_of, length_of, unseal, body_or_zeros}
 use Rattle.cards.specs.declared.RecordFault.{RecordFault}
@@ -43,4 +43,4 @@ open_output m b o = cond (nat_le b (length o)) (body_or_zeros m b ++ drop b o) o
 
 -- the record at the front, its tag tried
 abbrev pub tried : Sealing → List ℕ → List ℕ → ℕ → ℕ → List ℕ → Result Record Fault
-tried S key h n p rest = and_then (parse S.rate n p rest) (λ x. and_then (opened S key h n p (head_of rest) x) (λ _. Ok x))
+tried S key h n p rest = and_then (parse S.width n p rest) (λ x. and_then (opened S key h n p (head_of rest) x) (λ _. Ok x))

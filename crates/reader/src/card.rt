@@ -7,9 +7,9 @@ pub struct Card<'a> {
     pub(crate) bytes: &'a [u8],
     pub(crate) key: [u8; 16],
     pub(crate) version: u16,
-    pub(crate) rate: usize,
+    pub(crate) width: usize,
     pub(crate) count: usize,
-    ghost runs: { 0 < length bytes.now → place_of rate bytes.now (suc count) ≡ length bytes.now },
+    ghost runs: { 0 < length bytes.now → place_of width bytes.now (suc count) ≡ length bytes.now },
     ghost none: { length bytes.now ≡ 0 → count ≡ 0 },
-    ghost small: { rate ≤ 16 },
+    ghost small: { width ≤ 16 },
 }

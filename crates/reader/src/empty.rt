@@ -13,7 +13,7 @@ impl<'a> Card<'a> {
             bytes: &[],
             key: [0; 16],
             version: 0,
-            rate: 0,
+            width: 0,
             count: 0,
         }
     }

@@ -1,4 +1,4 @@
-ghost use Rattle.spoc.specs.Sealing.{Sealing};
+ghost use Rattle.sealer.specs.Sealing.{Sealing};
 ghost use Rattle.cards.specs.Claims.{FindTells};
 ghost use Rattle.cards.specs.Reader.{Finds};
 ghost use Rattle.reader.specs.Cards.{shown};

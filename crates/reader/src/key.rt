@@ -1,14 +1,13 @@
 ghost use Rattle.std.specs.Prelude.{◌≡◌, ◌+◌, ◌≤◌, ◌++◌, length, take};
-ghost use Rattle.spoc.specs.Sealing.{spoc as spoc_of};
-ghost use Rattle.cards.specs.Faults.{at, passed, recorded};
+ghost use Rattle.cards.specs.Faults.{at, fault, passed, recorded};
 ghost use Rattle.cards.specs.Format.{nonce as nonce_of};
-ghost use Rattle.cards.specs.Reader.{body_of, head_of, length_of, sheet_at, tag_of};
+ghost use Rattle.cards.specs.Reader.{body_of, head_of, length_of, sheet_at, tag_of, unseal};
 ghost use Rattle.reader.specs.Heads.{headed};
 ghost use Rattle.reader.specs.Said.{said, tried, open_answer, open_output};
 
 use crate::rest::{Record, Rest, SheetHead};
-use cards::{At, HEAD_BYTES, MOST_BODY, RecordFault, SealedFault, record_data, record_nonce};
-use spoc::{Suite, open};
+use cards::{At, HEAD_BYTES, RecordFault, SealedFault, record_data, record_nonce};
+use sealer::Sealer;
 
 // What the records of a card are opened with: its key and its header.
 #[derive(Clone, Copy)]
@@ -27,8 +26,8 @@ pub(crate) fn front<const N: usize>(bytes: &[u8]) -> &[u8; N]
 
 impl CardKey<'_> {
     // Opens a body of the record at the front into a buffer; a fault has the record's number, and a place. That the tag is as long as the
-    // rate is asked here alone: a record's type says it of no tag, as it knows no suite.
-    fn open<const B: usize, S: Suite<B>>(
+    // width is asked here alone: a record's type says it of no tag, as it knows no sealer.
+    fn open<C: Sealer>(
         &self,
         rest: &Rest<'_>,
         body: &[u8],
@@ -37,32 +36,56 @@ impl CardKey<'_> {
         out: &mut [u8],
     ) -> Result<(), SealedFault>
         requires head { 9 ≤ length rest.now.bytes.now }
-        requires lengths { (length body.now ≤ 65535) × (length tag.now ≡ S.SuiteModel.plan.rate) }
-        ensures answer { passed result ≡ open_answer ((spoc_of S.Bijection.meaning S.SuiteModel.plan).opens self.now.key.now (nonce_of self.now.header.now rest.now.number) (self.now.header.now ++ head_of rest.now.bytes.now) body.now tag.now) (length body.now) (length out.old) rest.now.number place }
-        ensures output { out.new ≡ open_output ((spoc_of S.Bijection.meaning S.SuiteModel.plan).opens self.now.key.now (nonce_of self.now.header.now rest.now.number) (self.now.header.now ++ head_of rest.now.bytes.now) body.now tag.now) (length body.now) out.old }
+        requires lengths { (length body.now ≤ 65535) × (length tag.now ≡ C.meaning.width) }
+        ensures answer { passed result ≡ open_answer (C.meaning.opens self.now.key.now (nonce_of self.now.header.now rest.now.number) (self.now.header.now ++ head_of rest.now.bytes.now) body.now tag.now) (length body.now) (length out.old) rest.now.number place }
+        ensures output { out.new ≡ open_output (C.meaning.opens self.now.key.now (nonce_of self.now.header.now rest.now.number) (self.now.header.now ++ head_of rest.now.bytes.now) body.now tag.now) (length body.now) out.old }
     {
         let CardKey { key, header } = *self;
         let data = record_data(header, front::<HEAD_BYTES>(rest.bytes));
         let nonce = record_nonce(header, rest.number as u64);
         let number = rest.number;
-        open::<B, S>(key, &nonce, &data, body, out, tag).map_err(
+        C::open(key, &nonce, &data, body, out, tag).map_err(
             |fault|
                 ensures { result ≡ at fault number place }
             { At::new(fault, number, place) },
         )
     }
 
-    // The record at the front, its tag tried, with its body in the scratch.
-    pub(crate) fn read<'a, const B: usize, S: Suite<B>>(
+    // Tries the tag of a body of the record at the front; a fault has the record's number, and a place.
+    fn test<C: Sealer>(
+        &self,
+        rest: &Rest<'_>,
+        body: &[u8],
+        tag: &[u8],
+        place: usize,
+        scratch: &mut [u8; 16],
+    ) -> Result<(), SealedFault>
+        requires head { 9 ≤ length rest.now.bytes.now }
+        requires lengths { (length body.now ≤ 65535) × (length tag.now ≡ C.meaning.width) }
+        ensures { passed result ≡ unseal (C.meaning.opens self.now.key.now (nonce_of self.now.header.now rest.now.number) (self.now.header.now ++ head_of rest.now.bytes.now) body.now tag.now) (λ _. tt) (fault 6 1 rest.now.number place) }
+    {
+        let CardKey { key, header } = *self;
+        let data = record_data(header, front::<HEAD_BYTES>(rest.bytes));
+        let nonce = record_nonce(header, rest.number as u64);
+        let number = rest.number;
+        C::test(key, &nonce, &data, body, scratch, tag).map_err(
+            |fault|
+                ensures { result ≡ at fault number place }
+            { At::new(fault, number, place) },
+        )
+    }
+
+    // The record at the front, its tag tried.
+    pub(crate) fn read<'a, C: Sealer>(
         &self,
         rest: &Rest<'a>,
-        scratch: &mut [u8; MOST_BODY],
+        scratch: &mut [u8; 16],
     ) -> Result<Record<'a>, RecordFault>
-        ensures { said result ≡ tried (spoc_of S.Bijection.meaning S.SuiteModel.plan) self.now.key.now self.now.header.now rest.now.number rest.now.place rest.now.bytes.now }
+        ensures { said result ≡ tried C.meaning self.now.key.now self.now.header.now rest.now.number rest.now.place rest.now.bytes.now }
     {
-        let record = rest.parse(S::RATE)?;
+        let record = rest.parse(C::WIDTH)?;
         let (body, tag) = record.sealed();
-        self.open::<B, S>(
+        self.test::<C>(
             rest,
             body,
             tag,
@@ -73,17 +96,17 @@ impl CardKey<'_> {
     }
 
     // Opens the sheet at the front, which lies within the rest, into the buffer.
-    pub(crate) fn open_sheet<const B: usize, S: Suite<B>>(
+    pub(crate) fn open_sheet<C: Sealer>(
         &self,
         rest: &Rest<'_>,
         buffer: &mut [u8],
     ) -> Result<SheetHead, RecordFault>
-        requires { 9 + length_of rest.now.bytes.now + S.SuiteModel.plan.rate ≤ length rest.now.bytes.now }
-        ensures answer { recorded result ≡ headed (sheet_at (spoc_of S.Bijection.meaning S.SuiteModel.plan) self.now.key.now self.now.header.now rest.now.number rest.now.place rest.now.bytes.now (length buffer.old)) }
-        ensures buffer { buffer.new ≡ open_output ((spoc_of S.Bijection.meaning S.SuiteModel.plan).opens self.now.key.now (nonce_of self.now.header.now rest.now.number) (self.now.header.now ++ head_of rest.now.bytes.now) (body_of rest.now.bytes.now) (tag_of S.SuiteModel.plan.rate rest.now.bytes.now)) (length_of rest.now.bytes.now) buffer.old }
+        requires { 9 + length_of rest.now.bytes.now + C.meaning.width ≤ length rest.now.bytes.now }
+        ensures answer { recorded result ≡ headed (sheet_at C.meaning self.now.key.now self.now.header.now rest.now.number rest.now.place rest.now.bytes.now (length buffer.old)) }
+        ensures buffer { buffer.new ≡ open_output (C.meaning.opens self.now.key.now (nonce_of self.now.header.now rest.now.number) (self.now.header.now ++ head_of rest.now.bytes.now) (body_of rest.now.bytes.now) (tag_of C.meaning.width rest.now.bytes.now)) (length_of rest.now.bytes.now) buffer.old }
     {
-        let (body, tag) = rest.body_and_tag(S::RATE);
-        self.open::<B, S>(rest, body, tag, rest.place + HEAD_BYTES, buffer)?;
+        let (body, tag) = rest.body_and_tag(C::WIDTH);
+        self.open::<C>(rest, body, tag, rest.place + HEAD_BYTES, buffer)?;
         Ok(rest.head())
     }
 }

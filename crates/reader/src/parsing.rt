@@ -52,15 +52,15 @@ impl<'a> Rest<'a> {
         }
     }
 
-    // Its body and its tag of `rate` bytes, where they are all there.
-    pub(crate) fn body_and_tag(&self, rate: usize) -> (&'a [u8], &'a [u8])
-        requires { 9 + length_of self.now.bytes.now + rate ≤ length self.now.bytes.now }
+    // Its body and its tag of `width` bytes, where they are all there.
+    pub(crate) fn body_and_tag(&self, width: usize) -> (&'a [u8], &'a [u8])
+        requires { 9 + length_of self.now.bytes.now + width ≤ length self.now.bytes.now }
         ensures body { result.0.now ≡ body_of self.now.bytes.now }
-        ensures tag { result.1.now ≡ tag_of rate self.now.bytes.now }
-        ensures lengths { (length result.0.now ≤ 65535) × (length result.1.now ≡ rate) }
+        ensures tag { result.1.now ≡ tag_of width self.now.bytes.now }
+        ensures lengths { (length result.0.now ≤ 65535) × (length result.1.now ≡ width) }
     {
         let end = HEAD_BYTES + self.head().length;
-        (&self.bytes[HEAD_BYTES..end], &self.bytes[end..end + rate])
+        (&self.bytes[HEAD_BYTES..end], &self.bytes[end..end + width])
     }
 
     // The questions on its head, which is of a kind.
@@ -83,10 +83,10 @@ impl<'a> Rest<'a> {
         }
     }
 
-    // Its record, under a tag of `rate` bytes.
-    pub(crate) fn parse(&self, rate: usize) -> Result<Record<'a>, RecordFault>
-        requires { rate ≤ 16 }
-        ensures { said result ≡ parse_of rate self.now.number self.now.place self.now.bytes.now }
+    // Its record, under a tag of `width` bytes.
+    pub(crate) fn parse(&self, width: usize) -> Result<Record<'a>, RecordFault>
+        requires { width ≤ 16 }
+        ensures { said result ≡ parse_of width self.now.number self.now.place self.now.bytes.now }
     {
         let (number, place) = (self.number, self.place);
         let [kind, ..] = *self
@@ -100,10 +100,10 @@ impl<'a> Rest<'a> {
         )?;
         let head = self.head();
         self.ask(kind, head)?;
-        if self.bytes.len() < HEAD_BYTES + head.length + rate {
+        if self.bytes.len() < HEAD_BYTES + head.length + width {
             return Err(RecordNo::Cut.at(self.number, self.place + HEAD_BYTES));
         }
-        let (body, tag) = self.body_and_tag(rate);
+        let (body, tag) = self.body_and_tag(width);
         Ok(match kind {
             Kind::Sheet => Record::Sheet {
                 cell: head.cell,

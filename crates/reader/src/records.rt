@@ -10,8 +10,8 @@ use cards::HEAD_BYTES;
 pub(crate) struct Sheets<'c, 'a> {
     card: &'c Card<'a>,
     rest: Rest<'a>,
-    ghost place: { rest.place ≡ place_of card.now.rate card.now.bytes.now rest.number },
-    ghost bytes: { rest.bytes.now ≡ drop (place_of card.now.rate card.now.bytes.now rest.number) card.now.bytes.now },
+    ghost place: { rest.place ≡ place_of card.now.width card.now.bytes.now rest.number },
+    ghost bytes: { rest.bytes.now ≡ drop (place_of card.now.width card.now.bytes.now rest.number) card.now.bytes.now },
     ghost within: { rest.number ≤ card.now.count },
 }
 
@@ -43,7 +43,7 @@ impl<'a> Iterator for Sheets<'_, 'a> {
             return None;
         }
         let rest = self.rest;
-        self.rest = rest.after(HEAD_BYTES + rest.head().length + self.card.rate);
+        self.rest = rest.after(HEAD_BYTES + rest.head().length + self.card.width);
         Some(rest)
     }
 }

@@ -1,5 +1,4 @@
 ghost use Rattle.std.specs.Prelude.{◌≡◌, ℕ, ◌+◌, ◌<◌, ◌≤◌, List, length, drop, Ok};
-ghost use Rattle.spoc.specs.Sealing.{spoc as spoc_of};
 ghost use Rattle.cards.specs.Faults.{told};
 ghost use Rattle.cards.specs.Reader.{check as check_of, place_of, sheet_answer, sheet_buffer};
 ghost use Rattle.reader.specs.Cards.{shown};
@@ -9,14 +8,14 @@ use crate::card::Card;
 use crate::key::{CardKey, front};
 use crate::rest::{Rest, SheetHead};
 use cards::{CardFault, CardNo, HEADER_BYTES};
-use spoc::Suite;
+use sealer::Sealer;
 
 impl<'a> Card<'a> {
     // The rest from record i on.
     pub(crate) fn rest_at(&self, i: usize) -> Rest<'a>
         requires { i < self.now.count }
-        ensures place { result.place ≡ place_of self.now.rate self.now.bytes.now i }
-        ensures bytes { result.bytes.now ≡ drop (place_of self.now.rate self.now.bytes.now i) self.now.bytes.now }
+        ensures place { result.place ≡ place_of self.now.width self.now.bytes.now i }
+        ensures bytes { result.bytes.now ≡ drop (place_of self.now.width self.now.bytes.now i) self.now.bytes.now }
         ensures number { result.number ≡ i }
     {
         self.sheets().nth(i).unwrap()
@@ -24,17 +23,17 @@ impl<'a> Card<'a> {
 }
 
 // Puts the body of sheet i at the front of the buffer, and answers its cell, its edition and its length.
-// The suite that passed check never finds that the tag disagrees.
-pub fn sheet<const B: usize, S: Suite<B>>(
+// The sealer that passed check never finds that the tag disagrees.
+pub fn sheet<C: Sealer>(
     card: &Card<'_>,
     i: usize,
     buffer: &mut [u8],
 ) -> Result<SheetHead, CardFault>
-    ensures answer { told result ≡ headed (sheet_answer (spoc_of S.Bijection.meaning S.SuiteModel.plan) (shown card.now) i (length buffer.old)) }
-    ensures buffer { buffer.new ≡ sheet_buffer (spoc_of S.Bijection.meaning S.SuiteModel.plan) (shown card.now) i buffer.old }
-    ensures agrees { (key : List ℕ) (scratch : ℕ) (bytes : List ℕ) → check_of (spoc_of S.Bijection.meaning S.SuiteModel.plan) key scratch bytes ≡ Ok (shown card.now) → NoMismatch (told result) }
+    ensures answer { told result ≡ headed (sheet_answer C.meaning (shown card.now) i (length buffer.old)) }
+    ensures buffer { buffer.new ≡ sheet_buffer C.meaning (shown card.now) i buffer.old }
+    ensures agrees { (key : List ℕ) (scratch : ℕ) (bytes : List ℕ) → check_of C.meaning key scratch bytes ≡ Ok (shown card.now) → NoMismatch (told result) }
 {
-    if card.version != S::VERSION || card.rate != S::RATE {
+    if card.version != C::VERSION || card.width != C::WIDTH {
         return Err(CardNo::Version.at(i, 0));
     }
     if i >= card.count {
@@ -44,5 +43,5 @@ pub fn sheet<const B: usize, S: Suite<B>>(
         key: &card.key,
         header: front::<HEADER_BYTES>(card.bytes),
     };
-    Ok(key.open_sheet::<B, S>(&card.rest_at(i), buffer)?)
+    Ok(key.open_sheet::<C>(&card.rest_at(i), buffer)?)
 }

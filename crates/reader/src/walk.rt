@@ -1,5 +1,4 @@
 ghost use Rattle.std.specs.Prelude.{◌≡◌, length, replicate};
-ghost use Rattle.spoc.specs.Sealing.{spoc as spoc_of};
 ghost use Rattle.cards.specs.Claims.{ReadsAsWritten, AllWritable, ReadsOnce};
 ghost use Rattle.cards.specs.Faults.{told};
 ghost use Rattle.cards.specs.Reader.{check as check_of, check_bytes, filled, how_many, scratch_after, walk};
@@ -8,25 +7,28 @@ ghost use Rattle.reader.specs.Cards.{shown, passes};
 use crate::card::Card;
 use crate::key::CardKey;
 use crate::rest::{Record, Rest};
-use cards::{CardFault, CardNo, HEAD_BYTES, HEADER_BYTES, MARK, MOST_BODY};
-use spoc::{SealFault, Suite};
+use cards::{CardFault, CardNo, HEAD_BYTES, HEADER_BYTES, MARK};
+use sealer::{SealFault, Sealer};
+
+// How many bytes of scratch check asks for: what a sealer's test asks for.
+const SCRATCH: usize = 16;
 
 // Walks the records of a card, and counts the sheets.
-fn walk_records<const B: usize, S: Suite<B>>(
+fn walk_records<C: Sealer>(
     key: &CardKey<'_>,
     records: Rest<'_>,
-    scratch: &mut [u8; MOST_BODY],
+    scratch: &mut [u8; SCRATCH],
 ) -> Result<usize, CardFault>
     requires { (records.number ≡ 0) × (records.place ≡ 13) }
-    ensures { told result ≡ how_many 0 (walk (spoc_of S.Bijection.meaning S.SuiteModel.plan) key.now.key.now key.now.header.now 512 0 13 records.entry.bytes.now) }
+    ensures { told result ≡ how_many 0 (walk C.meaning key.now.key.now key.now.header.now 512 0 13 records.entry.bytes.now) }
 {
     let mut rest = records;
     // How many records there are is not known before the end record is read, and each can be refused: no iterator.
     loop {
-        match key.read::<B, S>(&rest, scratch)? {
-            Record::Sheet { body, .. } => rest = rest.after(HEAD_BYTES + body.len() + S::RATE),
+        match key.read::<C>(&rest, scratch)? {
+            Record::Sheet { body, .. } => rest = rest.after(HEAD_BYTES + body.len() + C::WIDTH),
             Record::End { .. } => {
-                let size = HEAD_BYTES + S::RATE;
+                let size = HEAD_BYTES + C::WIDTH;
                 if rest.bytes.len() > size {
                     return Err(CardNo::Left.at(rest.number, rest.place + size));
                 }
@@ -38,12 +40,12 @@ fn walk_records<const B: usize, S: Suite<B>>(
 
 // Guards the part of a scratch that check uses: it is zero when the guard ends.
 struct Wipe<'a> {
-    bytes: &'a mut [u8; MOST_BODY],
+    bytes: &'a mut [u8; SCRATCH],
 }
 
 impl Drop for Wipe<'_> {
     fn drop(self)
-        ensures { self.exit.0.now ≡ replicate 4096 0 }
+        ensures { self.exit.0.now ≡ replicate 16 0 }
     {
         let Wipe { bytes } = self;
         bytes.fill(0);
@@ -51,16 +53,16 @@ impl Drop for Wipe<'_> {
 }
 
 // The questions on the header, and then the walk over the records behind it. However it ends, its part of the scratch is zero.
-fn walk_card<const B: usize, S: Suite<B>>(
+fn walk_card<C: Sealer>(
     key: &[u8; 16],
     bytes: &[u8],
-    scratch: &mut [u8; MOST_BODY],
+    scratch: &mut [u8; SCRATCH],
 ) -> Result<usize, CardFault>
-    ensures answer { told result ≡ how_many 0 (check_bytes (spoc_of S.Bijection.meaning S.SuiteModel.plan) key.now bytes.now) }
-    ensures zero { scratch.new ≡ replicate 4096 0 }
+    ensures answer { told result ≡ how_many 0 (check_bytes C.meaning key.now bytes.now) }
+    ensures zero { scratch.new ≡ replicate 16 0 }
 {
     let guard = Wipe { bytes: scratch };
-    // The lister asks the first two before it knows a suite, and keeps version and number; here the suite is known, and the bytes are kept.
+    // The lister asks the first two before it knows a sealer, and keeps version and number; here the sealer is known, and the bytes are kept.
     let header = bytes
         .first_chunk::<HEADER_BYTES>()
         .ok_or(CardNo::Cut.at(0, 0))?;
@@ -68,46 +70,46 @@ fn walk_card<const B: usize, S: Suite<B>>(
     if [m0, m1, m2] != *MARK {
         return Err(CardNo::Mark.at(0, 0));
     }
-    if u16::from_be_bytes([v0, v1]) != S::VERSION {
+    if u16::from_be_bytes([v0, v1]) != C::VERSION {
         return Err(CardNo::Version.at(0, 3));
     }
-    walk_records::<B, S>(
+    walk_records::<C>(
         &CardKey { key, header },
         Rest::records(bytes),
         &mut *guard.bytes,
     )
 }
 
-// Checks a card under a suite and a key, and fills `card`: with the checked card, or after a no with the empty one.
+// Checks a card under a sealer and a key, and fills `card`: with the checked card, or after a no with the empty one.
 //
-// Over every suite, bytes read as a list of sheets exactly when writing that list gives those bytes, every list that append takes can be written so,
+// Over every sealer, bytes read as a list of sheets exactly when writing that list gives those bytes, every list that append takes can be written so,
 // and no bytes read as two lists.
-pub fn check<'a, const B: usize, S: Suite<B>>(
+pub fn check<'a, C: Sealer>(
     key: &[u8],
     bytes: &'a [u8],
     scratch: &mut [u8],
     card: &mut Card<'a>,
 ) -> Result<(), CardFault>
-    ensures answer { told result ≡ passes (check_of (spoc_of S.Bijection.meaning S.SuiteModel.plan) key.now (length scratch.old) bytes.now) }
-    ensures fills { shown card.new ≡ filled (check_of (spoc_of S.Bijection.meaning S.SuiteModel.plan) key.now (length scratch.old) bytes.now) }
+    ensures answer { told result ≡ passes (check_of C.meaning key.now (length scratch.old) bytes.now) }
+    ensures fills { shown card.new ≡ filled (check_of C.meaning key.now (length scratch.old) bytes.now) }
     ensures scratch { scratch.new ≡ scratch_after key.now scratch.old }
-    ensures as_written { ReadsAsWritten (spoc_of S.Bijection.meaning S.SuiteModel.plan) }
-    ensures writable { AllWritable (spoc_of S.Bijection.meaning S.SuiteModel.plan) }
-    ensures once { ReadsOnce (spoc_of S.Bijection.meaning S.SuiteModel.plan) }
+    ensures as_written { ReadsAsWritten C.meaning }
+    ensures writable { AllWritable C.meaning }
+    ensures once { ReadsOnce C.meaning }
 {
     *card = Card::empty();
     let key = <[u8; 16]>::try_from(key)
         .ok()
         .ok_or(CardFault::of_cipher(SealFault::KeyLength))?;
     let part = scratch
-        .first_chunk_mut::<MOST_BODY>()
+        .first_chunk_mut::<SCRATCH>()
         .ok_or(CardFault::of_cipher(SealFault::OutputShort))?;
-    let count = walk_card::<B, S>(&key, bytes, part)?;
+    let count = walk_card::<C>(&key, bytes, part)?;
     *card = Card {
         bytes,
         key,
-        version: S::VERSION,
-        rate: S::RATE,
+        version: C::VERSION,
+        width: C::WIDTH,
         count,
     };
     Ok(())

@@ -9,13 +9,14 @@ use Rattle.permutations.specs.Permutation.{Perm, Bijective}
 use Rattle.permutations.specs.Xors.{xors_off}
 use Rattle.spoc.specs.Claims.{Claims}
 use Rattle.spoc.specs.Feed.{cut, blocks, zero_mask, mask, masks, ended, run, pick, ciphers, plains, tag, ciphertext, plaintext}
-use Rattle.spoc.specs.Sealing.{Laws, spoc}
+use Rattle.sealer.specs.Sealing.{Laws}
+use Rattle.spoc.specs.Sealing.{spoc}
 use Rattle.spoc.specs.Suite.{Plan, Sound, start}
 use Rattle.spoc.proofs.Blocks.{blocks_more, cut_joined, cut_fits}
 use Rattle.spoc.specs.Ends.{one_mask_tells, key_tells}
 use Rattle.spoc.proofs.Feeds.{feeds_distinct}
 use Rattle.spoc.proofs.Masks.{length_rated}
-use Rattle.spoc.specs.Sealing.{Octets}
+use Rattle.sealer.specs.Sealing.{Octets}
 use Rattle.spoc.proofs.Octet.{ciphertext_octets, tag_octets, plaintext_octets}
 use Rattle.spoc.proofs.Opened.{blocks_plains}
 use Rattle.spoc.specs.Rows.{length_pick}
@@ -131,8 +132,8 @@ module _ (p : Perm) (q : Plan) (laws : Sound p q) where
   pub spoc_laws : Bijective p → Laws (spoc p q)
   spoc_laws bij = record {
     version_small = laws.version_small;
-    rate_low = laws.rate_low;
-    rate_high = laws.rate_high;
+    width_low = laws.rate_low;
+    width_high = laws.rate_high;
     ciphertext_length = text_length;
     tag_length = λ k n d m. length_pick q.masked_places _ ∙ laws.masked_count;
     opens_sealed = λ k n d m.

@@ -7,7 +7,7 @@ use Rattle.permutations.specs.Permutation.{Bytes, Perm, Bijective}
 use Rattle.permutations.specs.Xors.{xors_bytes}
 use Rattle.permutations.specs.Words.{Byte}
 use Rattle.spoc.specs.Feed.{blocks, feed, run, pick, ciphers, before, tag, ciphertext}
-use Rattle.spoc.specs.Sealing.{Octets}
+use Rattle.sealer.specs.Sealing.{Octets}
 use Rattle.spoc.specs.Suite.{Plan, Sound, start}
 use Rattle.std.proofs.lemmas.List.{length-replicate}
 use Rattle.spoc.specs.Feed.{zero_mask, mask, masks, plains, plaintext}

@@ -3,13 +3,14 @@ use Rattle.std.proofs.Common.{◌≡◌, ℕ, Bool, true, false, cond, ◌&&◌,
 use Rattle.std.specs.List.{flat_map}
 use Rattle.std.specs.Str.{bytes_eq}
 use Rattle.std.proofs.lemmas.List.{take_at, drop_at}
-use Rattle.std.proofs.lemmas.Bool.{eq-eqb}
+use Rattle.std.proofs.lemmas.Bool.{eq-eqb, eqb-true}
 use Rattle.permutations.specs.Permutation.{Perm, Bijective}
-use Rattle.spoc.specs.declared.fault.SealFault.{SealFault}
-use Rattle.spoc.specs.declared.fault.SealFault.TheVariants.{KeyLength, NonceLength, TooLong, OutputShort, TagLength, TagMismatch}
+use Rattle.sealer.specs.declared.SealFault.{SealFault}
+use Rattle.sealer.specs.declared.SealFault.TheVariants.{KeyLength, NonceLength, TooLong, OutputShort, TagLength, TagMismatch}
 use Rattle.spoc.specs.declared.mode.Way.TheVariants.{Seal, Open}
 use Rattle.spoc.specs.Feed.{blocks, masks, ended, run, pick, ciphers, tag, ciphertext, plains, plaintext, opens}
-use Rattle.spoc.specs.Seal.{first_no, Sealed, sealed, sealed_unless, opened, opened_unless, judged, opened_again}
+use Rattle.sealer.specs.Seal.{first_no, Sealed, sealed_unless, Opened, opened_unless, judged, verdict, opened_again}
+use Rattle.spoc.specs.Seal.{sealed, opened, tested}
 use Rattle.spoc.specs.Suite.{Plan, Sound, start}
 use Rattle.spoc.specs.Turns.{at_message, masks_of, opened_masks, output_of}
 use Rattle.spoc.proofs.Law.{spoc_laws}
@@ -27,53 +28,67 @@ passes true true false y z h = absurd (some_not TooLong h)
 passes true false x y z h = absurd (some_not NonceLength h)
 passes false w x y z h = absurd (some_not KeyLength h)
 
+-- the tag has the bytes it is to have
+pub tag_long : (r w : ℕ) (k n d m o t : List ℕ) → first_no r w k n d m o t ≡ None → length t ≡ r
+tag_long r w k n d m o t none =
+    let all = passes (eqb (length k) 16) (eqb (length n) 16) (leb (length d) 65535 && leb (length m) 65535) (leb w (length o)) (eqb (length t) r) none in
+    eqb-true (length t) r all.4
+
 -- ---- past the questions
 
--- r is the rate, and k' and n' are the key and the nonce as arrays; s is the state before the message, and s' the end state
-module _ (p : Perm) (q : Plan) (k n d m o t k' n' s s' out' : List ℕ) (r : ℕ)
-    (er : r ≡ q.rate) (none : first_no r k n d m o t ≡ None) (ek : k' ≡ k) (en : n' ≡ n) (es : s ≡ at_message p q (start p q k' n') d m) where
-  none_said : first_no q.rate k n d m o t ≡ None
-  none_said = ap (λ z. first_no z k n d m o t) (sym er) ∙ none
+-- r is the rate, w how many bytes the output is to have, and k' and n' are the key and the nonce as arrays; s is the state before the message, and s' the end state
+module _ (p : Perm) (q : Plan) (k n d m o t k' n' s s' : List ℕ) (r w : ℕ)
+    (er : r ≡ q.rate) (none : first_no r w k n d m o t ≡ None) (ek : k' ≡ k) (en : n' ≡ n) (es : s ≡ at_message p q (start p q k' n') d m) where
+  none_said : (v : ℕ) → w ≡ v → first_no q.rate v k n d m o t ≡ None
+  none_said v ew = ap (λ z. first_no z v k n d m o t) (sym er) ∙ ap (λ z. first_no r z k n d m o t) (sym ew) ∙ none
 
   before_is : s ≡ at_message p q (start p q k n) d m
   before_is = es ∙ ap (λ z. at_message p q (start p q z n') d m) ek ∙ ap (λ z. at_message p q (start p q k z) d m) en
 
-  pub sealed_is : (t' : List ℕ) → s' ≡ run p s (masks_of Seal p q s m) → out' ≡ output_of Seal p q s m ++ drop (length m) o → t' ≡ pick q.masked_places s'
+  pub sealed_is : w ≡ length m → (out' t' : List ℕ) → s' ≡ run p s (masks_of Seal p q s m) → out' ≡ output_of Seal p q s m ++ drop (length m) o → t' ≡ pick q.masked_places s'
       → sealed p q k n d m o t ≡ record { answer = Ok tt; out = out'; tag = t' }
-  sealed_is t' es' eo et =
+  sealed_is ew out' t' es' eo et =
       let text : out' ≡ ciphertext p q k n d m ++ drop (length m) o =
       eo ∙ ap (λ z. z ++ drop (length m) o) (ap (λ z. ciphers p q z (blocks q.rate m) (ended q (masks p q 64 m))) before_is ∙ text_is p q k n d m) in
       let end : t' ≡ tag p q k n d m =
       et ∙ ap (pick q.masked_places) (es' ∙ ap (λ z. run p z (ended q (masks p q 64 m))) before_is ∙ end_is p q (start p q k n) d m) in
-      ap (λ z. sealed_unless z o t record { answer = Ok tt; out = ciphertext p q k n d m ++ drop (length m) o; tag = tag p q k n d m }) none_said
+      ap (λ z. sealed_unless z o t record { answer = Ok tt; out = ciphertext p q k n d m ++ drop (length m) o; tag = tag p q k n d m }) (none_said (length m) ew)
       ∙ ap₂ (λ x y. record { answer = Ok tt; out = x; tag = y }) (sym text) (sym end)
 
   -- here m is the ciphertext
-  module _ (laws : Sound p q) (b : Bool) (es' : s' ≡ run p s (masks_of Open p q s m)) (eo : out' ≡ output_of Open p q s m ++ drop (length m) o)
-      (eb : b ≡ bytes_eq (pick q.masked_places s') t) where
-    text_opened : out' ≡ plaintext p q k n d m ++ drop (length m) o
-    text_opened = eo ∙ ap (λ z. z ++ drop (length m) o) (ap (λ z. flat_map (λ x. x) (plains p q z (blocks q.rate m))) before_is ∙ plain_is p q k n d m)
-
-    judged_is : opened p q k n d m o t ≡ judged (cond b (Some (plaintext p q k n d m)) None) (length m) (drop (length m) o)
-    judged_is =
+  module _ (laws : Sound p q) (b : Bool) (es' : s' ≡ run p s (masks_of Open p q s m)) (eb : b ≡ bytes_eq (pick q.masked_places s') t) where
+    asked : bytes_eq (tag p q k n d (plaintext p q k n d m)) t ≡ b
+    asked =
         let end = es' ∙ ap (λ z. run p z (opened_masks p q z m)) before_is ∙ opened_end p q laws k n d m in
-        let asked : bytes_eq (tag p q k n d (plaintext p q k n d m)) t ≡ b = ap (λ z. bytes_eq (pick q.masked_places z) t) (sym end) ∙ sym eb in
-        ap (λ z. opened_unless z o (judged (opens p q k n d m t) (length m) (drop (length m) o))) none_said
-        ∙ ap (λ z. judged (cond z (Some (plaintext p q k n d m)) None) (length m) (drop (length m) o)) asked
+        ap (λ z. bytes_eq (pick q.masked_places z) t) (sym end) ∙ sym eb
 
-    pub agreed : b ≡ true → opened p q k n d m o t ≡ record { answer = Ok tt; out = out' }
-    agreed e =
-        judged_is
-        ∙ ap (λ z. judged (cond z (Some (plaintext p q k n d m)) None) (length m) (drop (length m) o)) e
-        ∙ ap (λ z. record { answer = Ok tt; out = z }) (sym text_opened)
+    pub tested_is : w ≡ 16 → tested p q k n d m o t ≡ record { answer = verdict (cond b (Some (plaintext p q k n d m)) None); out = replicate 16 0 ++ drop 16 o }
+    tested_is ew =
+        ap (λ z. opened_unless z o (record { answer = verdict (opens p q k n d m t); out = replicate 16 0 ++ drop 16 o })) (none_said 16 ew)
+        ∙ ap (λ z. record { answer = verdict (cond z (Some (plaintext p q k n d m)) None); out = replicate 16 0 ++ drop 16 o }) asked
 
-    pub mismatched : b ≡ false → opened p q k n d m o t ≡ record { answer = Err TagMismatch; out = replicate (length m) 0 ++ drop (length m) out' }
-    mismatched e =
-        let rest : drop (length m) out' ≡ drop (length m) o =
-        ap (drop (length m)) text_opened ∙ drop_at (plaintext p q k n d m) (drop (length m) o) (length m) (plain_length p q laws k n d m) in
-        judged_is
-        ∙ ap (λ z. judged (cond z (Some (plaintext p q k n d m)) None) (length m) (drop (length m) o)) e
-        ∙ ap (λ z. record { answer = Err TagMismatch; out = replicate (length m) 0 ++ z }) (sym rest)
+    module _ (ew : w ≡ length m) (out' : List ℕ) (eo : out' ≡ output_of Open p q s m ++ drop (length m) o) where
+      text_opened : out' ≡ plaintext p q k n d m ++ drop (length m) o
+      text_opened = eo ∙ ap (λ z. z ++ drop (length m) o) (ap (λ z. flat_map (λ x. x) (plains p q z (blocks q.rate m))) before_is ∙ plain_is p q k n d m)
+
+      judged_is : opened p q k n d m o t ≡ judged (cond b (Some (plaintext p q k n d m)) None) (length m) (drop (length m) o)
+      judged_is =
+          ap (λ z. opened_unless z o (judged (opens p q k n d m t) (length m) (drop (length m) o))) (none_said (length m) ew)
+          ∙ ap (λ z. judged (cond z (Some (plaintext p q k n d m)) None) (length m) (drop (length m) o)) asked
+
+      pub agreed : b ≡ true → opened p q k n d m o t ≡ record { answer = Ok tt; out = out' }
+      agreed e =
+          judged_is
+          ∙ ap (λ z. judged (cond z (Some (plaintext p q k n d m)) None) (length m) (drop (length m) o)) e
+          ∙ ap (λ z. record { answer = Ok tt; out = z }) (sym text_opened)
+
+      pub mismatched : b ≡ false → opened p q k n d m o t ≡ record { answer = Err TagMismatch; out = replicate (length m) 0 ++ drop (length m) out' }
+      mismatched e =
+          let rest : drop (length m) out' ≡ drop (length m) o =
+          ap (drop (length m)) text_opened ∙ drop_at (plaintext p q k n d m) (drop (length m) o) (length m) (plain_length p q laws k n d m) in
+          judged_is
+          ∙ ap (λ z. judged (cond z (Some (plaintext p q k n d m)) None) (length m) (drop (length m) o)) e
+          ∙ ap (λ z. record { answer = Err TagMismatch; out = replicate (length m) 0 ++ z }) (sym rest)
 
 -- ---- sealed and opened again
 
@@ -88,8 +103,8 @@ module _ (p : Perm) (q : Plan) (laws : Sound p q) (bij : Bijective p) (k n d m s
   accepted None x h = refl
   accepted (Some e) x h = absurd (ok_not e h)
 
-  pub none_refused : (sealed p q k n d m s t).answer ≡ Ok tt → first_no q.rate k n d m s t ≡ None
-  none_refused h = accepted (first_no q.rate k n d m s t) _ h
+  pub none_refused : (sealed p q k n d m s t).answer ≡ Ok tt → first_no q.rate (length m) k n d m s t ≡ None
+  none_refused h = accepted (first_no q.rate (length m) k n d m s t) _ h
 
   chosen : (b : Bool) (o : List ℕ) → opened_unless (cond b None (Some OutputShort)) o (judged (Some m) (length m) (drop (length m) o))
       ≡ cond b record { answer = Ok tt; out = m ++ drop (length m) o } record { answer = Err OutputShort; out = o }
@@ -101,7 +116,7 @@ module _ (p : Perm) (q : Plan) (laws : Sound p q) (bij : Bijective p) (k n d m s
       → opened p q k n d (take l c) o t' ≡ opened_again (sealed p q k n d m s t).answer m o
   opens_again a c t' o l el ok ea ec et =
       let law = spoc_laws p q laws bij in
-      let none : first_no q.rate k n d m s t ≡ None = none_refused (sym ea ∙ ok) in
+      let none : first_no q.rate (length m) k n d m s t ≡ None = none_refused (sym ea ∙ ok) in
       let whole : sealed p q k n d m s t ≡ record { answer = Ok tt; out = ciphertext p q k n d m ++ drop (length m) s; tag = tag p q k n d m } =
       ap (λ z. sealed_unless z s t record { answer = Ok tt; out = ciphertext p q k n d m ++ drop (length m) s; tag = tag p q k n d m }) none in
       let all = passes (eqb (length k) 16) (eqb (length n) 16) (leb (length d) 65535 && leb (length m) 65535) (leb (length m) (length s)) (eqb (length t) q.rate) none in
@@ -109,7 +124,7 @@ module _ (p : Perm) (q : Plan) (laws : Sound p q) (bij : Bijective p) (k n d m s
       let u : List ℕ = tag p q k n d m in
       let long : length y ≡ length m = law.ciphertext_length k n d m in
       let text : take l c ≡ y = ap (λ z. take z c) el ∙ ap (take (length m)) (ec ∙ ap (λ z. z.out) whole) ∙ take_at y (drop (length m) s) (length m) long in
-      let passed : first_no q.rate k n d y o u ≡ cond (leb (length m) (length o)) None (Some OutputShort) =
+      let passed : first_no q.rate (length y) k n d y o u ≡ cond (leb (length m) (length o)) None (Some OutputShort) =
       rw (all.0, all.1, long, all.2, eq-eqb (length u) q.rate (law.tag_length k n d m)) refl in
       ap (λ z. opened p q k n d z o t') text
       ∙ ap (opened p q k n d y o) (et ∙ ap (λ z. z.tag) whole)

@@ -2,7 +2,8 @@
 use Rattle.std.specs.Prelude.{◌≡◌, ℕ, ◌≢◌, List, ◌∷◌, ◌++◌}
 use Rattle.permutations.specs.Permutation.{Bytes, Perm}
 use Rattle.spoc.specs.Feed.{feed, end_state}
-use Rattle.spoc.specs.Sealing.{Octets, Laws, spoc}
+use Rattle.sealer.specs.Sealing.{Octets, Laws}
+use Rattle.spoc.specs.Sealing.{spoc}
 use Rattle.spoc.specs.Suite.{Plan, start}
 
 -- two pairs of data and message with one feed are one pair

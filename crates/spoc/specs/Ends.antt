@@ -12,7 +12,7 @@ use Rattle.permutations.specs.Words.{Byte}
 use Rattle.permutations.specs.Xors.{xor_back}
 use Rattle.spoc.specs.Claims.{DifferInOne, OneMaskTells, KeyTells}
 use Rattle.spoc.specs.Feed.{cut, blocks, put, zero_mask, padded, control, mask, masks, control_place, ended, feed, run}
-use Rattle.spoc.specs.Sealing.{Octets}
+use Rattle.sealer.specs.Sealing.{Octets}
 use Rattle.spoc.specs.Suite.{Plan, Sound, start}
 use Rattle.spoc.specs.Rows.{suc_inj, length_put, length_xors_le}
 

@@ -1,6 +1,5 @@
 pub mod Bench
 pub mod Claims
-pub mod Fault
 pub mod Feed
 pub mod Known
 pub mod Name

@@ -1,10 +1,11 @@
 ghost use Rattle.std.specs.Prelude.{◌≡◌};
 ghost use Rattle.spoc.specs.Claims.{Claims};
-ghost use Rattle.spoc.specs.Seal.{sealed, opened_again};
+ghost use Rattle.sealer.specs.Seal.{opened_again};
+ghost use Rattle.spoc.specs.Seal.{sealed};
 
-use crate::fault::SealFault;
 use crate::sealing::{open, seal};
 use crate::suite::Suite;
+use sealer::SealFault;
 
 // Seals a message into `ciphertext` and `tag`, and opens it again into `out`, which then begins with the message.
 //

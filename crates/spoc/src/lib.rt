@@ -4,7 +4,6 @@
 mod bench;
 mod claims;
 mod constants;
-mod fault;
 mod known;
 mod mode;
 mod name;
@@ -16,10 +15,9 @@ mod suite;
 
 pub use claims::seal_and_open;
 pub use constants::{rates, versions};
-pub use fault::SealFault;
 pub use known::{BenchSealed, bench_example};
 pub use name::{NoSuchVersion, SuiteName};
-pub use sealing::{open, seal};
+pub use sealing::{open, seal, test};
 pub use spoc64::Spoc64;
 pub use spoc128::Spoc128;
 pub use suite::{Suite, SuiteModel};

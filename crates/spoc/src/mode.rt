@@ -2,7 +2,7 @@ ghost use Rattle.std.specs.Prelude.{◌≡◌, ℕ, ◌<◌, ◌≤◌, ◌++◌
 ghost use Rattle.std.specs.Str.{bytes_eq};
 ghost use Rattle.permutations.specs.Bytes.{xors};
 ghost use Rattle.spoc.specs.Feed.{padded, put, zero_mask, mask_with, masks, control_place, run, pick};
-ghost use Rattle.spoc.specs.Turns.{ended_if, control_byte, first_mask, at_message, plain_of, masks_of, output_of};
+ghost use Rattle.spoc.specs.Turns.{ended_if, control_byte, first_mask, at_message, plain_of, masks_of, opened_masks, output_of};
 ghost use Rattle.spoc.specs.Suite.{start};
 
 use crate::suite::Suite;
@@ -226,6 +226,18 @@ impl<const B: usize, S: Suite<B>> Duplex<B, S> {
             let end = start + block.len();
             let control = control_of(MESSAGE, block, S::RATE, end == input.len());
             self.crypt_block(way, block, &mut out[start..end], control);
+        }
+    }
+
+    // Each block of a ciphertext is opened at the front of the scratch, one over the other: the state goes as it does in crypt.
+    #[inline(always)]
+    pub(crate) fn open_over(&mut self, ciphertext: &[u8], scratch: &mut [u8; 16])
+        ensures { self.new.state ≡ run S.Bijection.meaning self.old.state (opened_masks S.Bijection.meaning S.SuiteModel.plan self.old.state ciphertext.now) }
+    {
+        for (i, block) in ciphertext.chunks(S::RATE).enumerate() {
+            let end = i * S::RATE + block.len();
+            let control = control_of(MESSAGE, block, S::RATE, end == ciphertext.len());
+            self.crypt_block(Way::Open, block, &mut scratch[..block.len()], control);
         }
     }
 

@@ -1,10 +1,10 @@
 -- What the calls of the cipher read and print. Assumes nothing.
 use Rattle.std.specs.Prelude.{ℕ, List, [], ◌∷◌, ◌++◌, length, Ok, Err, vec_items, codes, decimal, Result}
 use Rattle.permutations.specs.Permutation.{Perm}
-use Rattle.spoc.specs.Fault.{fault_number, fault_layer}
+use Rattle.sealer.specs.Fault.{fault_number, fault_layer}
 use Rattle.spoc.specs.Seal.{Sealed, Opened, sealed, opened}
 use Rattle.spoc.specs.Suite.{Plan}
-use Rattle.spoc.specs.declared.SealFault.{SealFault}
+use Rattle.sealer.specs.declared.SealFault.{SealFault}
 use Rattle.script.specs.Hex.{bytes_of, hex_text}
 use Rattle.script.specs.Numbers.{number_of}
 use Rattle.script.specs.Words.{with_read, with_next, ending}

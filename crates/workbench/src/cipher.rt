@@ -2,7 +2,7 @@ ghost use Rattle.std.specs.Prelude.{◌≡◌, IfOk, Some, string_bytes};
 ghost use Rattle.script.specs.Reasons.{Holds};
 ghost use Rattle.script.specs.Words.{left};
 ghost use Rattle.script.specs.declared.CipherCall.TheVariants.{Seal, Open, SealInto, OpenInto};
-ghost use Rattle.spoc.specs.Fault.{fault_number, fault_layer};
+ghost use Rattle.sealer.specs.Fault.{fault_number, fault_layer};
 ghost use Rattle.workbench.specs.Sealings.{inputs_in, seal_in, open_in, seal_with, open_with, refused_text, first_line, seal_text, open_text, seal_into_text, open_into_text, inputs_of, given_asked, cipher_asked};
 
 use card_calls::FILLER;

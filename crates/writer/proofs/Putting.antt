@@ -2,21 +2,19 @@
 use Rattle.std.proofs.Common.{◌≡◌, ℕ, ◌+◌, ◌≤◌, List, [], ◌++◌, length, take, drop, None, sym, refl, ap, ◌∙◌, arith}
 use Rattle.std.proofs.lemmas.List.{append_assoc, append-nil, drop_all, drop-drop, length-append}
 use Rattle.std.proofs.lemmas.Bool.Decides.{nat_tests}
-use Rattle.permutations.specs.Permutation.{Perm}
-use Rattle.spoc.specs.Suite.{Plan}
-use Rattle.spoc.specs.Seal.{sealed, first_no}
-use Rattle.spoc.specs.Feed.{ciphertext, tag}
+use Rattle.sealer.specs.Seal.{sealed, first_no}
+use Rattle.sealer.specs.Sealing.{Sealing}
 use Rattle.cards.specs.Plain.{overwrite}
 
-passes : (r : ℕ) (k n d m o t : List ℕ) → length k ≡ 16 → length n ≡ 16 → length d ≡ 22 → length m ≤ 4096 → length o ≡ length m → length t ≡ r → first_no r k n d m o t ≡ None
+passes : (r : ℕ) (k n d m o t : List ℕ) → length k ≡ 16 → length n ≡ 16 → length d ≡ 22 → length m ≤ 4096 → length o ≡ length m → length t ≡ r → first_no r (length m) k n d m o t ≡ None
 passes r k n d m o t hk hn hd hm ho ht = grind (arith, nat_tests)
 
 -- what seal leaves in two parts that are as long as body and tag
-pub whole : (p : Perm) (q : Plan) (k n d m o t : List ℕ) → length k ≡ 16 → length n ≡ 16 → length d ≡ 22 → length m ≤ 4096 → length o ≡ length m → length t ≡ q.rate → ((sealed p q k n d m o t).out ≡ ciphertext p q k n d m) × ((sealed p q k n d m o t).tag ≡ tag p q k n d m)
-whole p q k n d m o t hk hn hd hm ho ht =
-    let e = passes q.rate k n d m o t hk hn hd hm ho ht in
+pub whole : (S : Sealing) (k n d m o t : List ℕ) → length k ≡ 16 → length n ≡ 16 → length d ≡ 22 → length m ≤ 4096 → length o ≡ length m → length t ≡ S.width → ((sealed S k n d m o t).out ≡ S.ciphertext k n d m) × ((sealed S k n d m o t).tag ≡ S.tag k n d m)
+whole S k n d m o t hk hn hd hm ho ht =
+    let e = passes S.width k n d m o t hk hn hd hm ho ht in
     let none : drop (length m) o ≡ [] = drop_all (length m) o (omega arith) in (
-      rw e (ap (λ (z : List ℕ). ciphertext p q k n d m ++ z) none ∙ append-nil (ciphertext p q k n d m)),
+      rw e (ap (λ (z : List ℕ). S.ciphertext k n d m ++ z) none ∙ append-nil (S.ciphertext k n d m)),
       rw e refl,
     )
 

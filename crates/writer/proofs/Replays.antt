@@ -2,7 +2,7 @@
 use Rattle.std.proofs.Common.{◌≡◌, ℕ, ◌+◌, ◌<◌, min, List, [], ◌∷◌, ◌++◌, map, length, get_or, take, drop, set, Err, Result, sym, ap, ◌∙◌, subst, ⊎_elim, arith, Bor}
 use Rattle.std.proofs.str.Laws.{order}
 use Rattle.std.proofs.lemmas.List.{append_assoc, drop-drop, drop-set-lt, drop_more, map-append, take_all}
-use Rattle.spoc.specs.Sealing.{Sealing}
+use Rattle.sealer.specs.Sealing.{Sealing}
 use Rattle.cards.specs.Faults.{Fault, told, of_card}
 use Rattle.cards.specs.Format.{Sheet, a_sheet}
 use Rattle.cards.specs.Plain.{Plain, append_answer, appended, close_answer, closed_medium, left_by, next_nonce}
@@ -41,7 +41,7 @@ module _ (S : Sealing) (w : Plain) (all : List plain.Call) (done : List (Result 
       ran f e = ap (λ a. closing S q a (run S q cs)) e
 
 -- what a turn leaves, for each plain writer that the first state stands for
-abbrev pub Goes : {B : ℕ} {T : Type 0} (S : Sealing) (x : Writer B T) (m : List ℕ) (calls : List Call) (v : List (Result ℕ CardFault)) (x' : Writer B T) (m' : List ℕ) (i : ℕ) → Type 0
+abbrev pub Goes : {T : Type 0} (S : Sealing) (x : Writer T) (m : List ℕ) (calls : List Call) (v : List (Result ℕ CardFault)) (x' : Writer T) (m' : List ℕ) (i : ℕ) → Type 0
 Goes S x m calls v x' m' i = (w : Plain) → Stands x m w → (q : Plain) × Stands x' m' q × Reached S w (map plain_call calls) (map told v) q (map plain_call (drop i calls))
 
 next_call : (xs : List Call) (i : ℕ) (d x : Call) → i < length xs → get_or xs i d ≡ x → map plain_call (drop i xs) ≡ plain_call x ∷ map plain_call (drop (i + 1) xs)
@@ -51,17 +51,17 @@ next_call xs i d x h e = ap (map plain_call) (drop_more xs i d h) ∙ ap (λ y. 
 told_push : (v v' : List (Result ℕ CardFault)) (a : Result ℕ CardFault) → v' ≡ v ++ (a ∷ []) → map told v' ≡ map told v ++ (told a ∷ [])
 told_push v v' a e = ap (map told) e ∙ map-append told v (a ∷ [])
 
-pub stands_at : {B : ℕ} {T : Type 0} {x x' : Writer B T} {m m' : List ℕ} {q : Plain} → x ≡ x' → m ≡ m' → Stands x' m' q → Stands x m q
-stands_at {B} {T} back e s = record {
-  key = ap (λ (z : Writer B T). z.key) back ∙ s.key;
-  header = ap (λ (z : Writer B T). z.header) back ∙ s.header;
+pub stands_at : {T : Type 0} {x x' : Writer T} {m m' : List ℕ} {q : Plain} → x ≡ x' → m ≡ m' → Stands x' m' q → Stands x m q
+stands_at {T} back e s = record {
+  key = ap (λ (z : Writer T). z.key) back ∙ s.key;
+  header = ap (λ (z : Writer T). z.header) back ∙ s.header;
   medium = e ∙ s.medium;
-  counts = ap (λ (z : Writer B T). z.count) back ∙ s.counts;
-  place = ap (λ (z : Writer B T). z.place) back ∙ s.place;
+  counts = ap (λ (z : Writer T). z.count) back ∙ s.counts;
+  place = ap (λ (z : Writer T). z.place) back ∙ s.place;
 }
 
-module _ {B : ℕ} {T : Type 0} (S : Sealing) (x : Writer B T) (m : List ℕ) (calls : List Call) (v : List (Result ℕ CardFault)) (x' : Writer B T) (m' : List ℕ) (i : ℕ) (goes : Goes S x m calls v x' m' i) (d : Call) (within : i < length calls) where
-  pub goes_append : (c e : ℕ) (b : Bor (List ℕ)) (a : Result ℕ CardFault) (x'' : Writer B T) (m'' : List ℕ) (v' : List (Result ℕ CardFault)) → get_or calls i d ≡ Append c e b → v' ≡ v ++ (a ∷ [])
+module _ {T : Type 0} (S : Sealing) (x : Writer T) (m : List ℕ) (calls : List Call) (v : List (Result ℕ CardFault)) (x' : Writer T) (m' : List ℕ) (i : ℕ) (goes : Goes S x m calls v x' m' i) (d : Call) (within : i < length calls) where
+  pub goes_append : (c e : ℕ) (b : Bor (List ℕ)) (a : Result ℕ CardFault) (x'' : Writer T) (m'' : List ℕ) (v' : List (Result ℕ CardFault)) → get_or calls i d ≡ Append c e b → v' ≡ v ++ (a ∷ [])
       → ((q : Plain) → Stands x' m' q → (told a ≡ append_answer S q (a_sheet c e b.now)) × Stands x'' m'' (after_append S q (a_sheet c e b.now))) → Goes S x m calls v' x'' m'' (i + 1)
   goes_append c e b a x'' m'' v' is pushed says w s =
       let g = goes w s in
@@ -75,7 +75,7 @@ module _ {B : ℕ} {T : Type 0} (S : Sealing) (x : Writer B T) (m : List ℕ) (c
         subst (λ l. Reached S w (map plain_call calls) l (after_append S q sheet) rest) (ap (λ z. map told v ++ (z ∷ [])) (sym y.0) ∙ sym (told_push v v' a pushed)) (reached_append S w (map plain_call calls) (map told v) q rest sheet at),
       )
 
-  pub goes_refused : (f : CardFault) (x'' : Writer B T) (m'' : List ℕ) (v' : List (Result ℕ CardFault)) → get_or calls i d ≡ Close → v' ≡ v ++ (Err f ∷ []) → x'' ≡ x'
+  pub goes_refused : (f : CardFault) (x'' : Writer T) (m'' : List ℕ) (v' : List (Result ℕ CardFault)) → get_or calls i d ≡ Close → v' ≡ v ++ (Err f ∷ []) → x'' ≡ x'
       → ((q : Plain) → Stands x' m' q → (Err (of_card f) ≡ close_answer S q) × (m'' ≡ left_by (close_answer S q) (closed_medium S q) q.medium)) → Goes S x m calls v' x'' m'' (i + 1)
   goes_refused f x'' m'' v' is pushed back says w s =
       let g = goes w s in

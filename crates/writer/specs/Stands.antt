@@ -6,7 +6,7 @@ use Rattle.cards.specs.declared.CardFault.{CardFault}
 use Rattle.writer.specs.declared.writer.Writer.{Writer}
 use Rattle.writer.specs.declared.writer.Unclosed.{Unclosed}
 
-pub record Stands {B : ℕ} {S : Type 0} (x : Writer B S) (m : List ℕ) (w : Plain) : Type 0 where
+pub record Stands {C : Type 0} (x : Writer C) (m : List ℕ) (w : Plain) : Type 0 where
   pub key : x.key ≡ w.key
   pub header : x.header ≡ w.header
   pub medium : m ≡ w.medium
@@ -14,18 +14,18 @@ pub record Stands {B : ℕ} {S : Type 0} (x : Writer B S) (m : List ℕ) (w : Pl
   pub place : x.place ≡ w.place
 
 -- the answer of start: a writer that stands for the plain one, or the plain one's fault
-abbrev pub Starts : {B : ℕ} {S : Type 0} → Result (Writer B S) CardFault → List ℕ → Result Plain Fault → Type 0
+abbrev pub Starts : {C : Type 0} → Result (Writer C) CardFault → List ℕ → Result Plain Fault → Type 0
 Starts (Ok x) m (Ok w) = Stands x m w
 Starts (Ok x) m (Err f) = ⊥
 Starts (Err e) m (Ok w) = ⊥
 Starts (Err e) m (Err f) = of_card e ≡ f
 
 -- what close answers
-abbrev pub closing : {B : ℕ} {S : Type 0} → Result ℕ (Unclosed B S) → Result ℕ Fault
+abbrev pub closing : {C : Type 0} → Result ℕ (Unclosed C) → Result ℕ Fault
 closing (Ok n) = Ok n
 closing (Err u) = Err (of_card u.fault)
 
 -- a refused close gives the writer back
-abbrev pub Back : {B : ℕ} {S : Type 0} → Result ℕ (Unclosed B S) → Writer B S → Type 0
+abbrev pub Back : {C : Type 0} → Result ℕ (Unclosed C) → Writer C → Type 0
 Back (Ok n) x = Unit {0}
 Back (Err u) x = u.writer ≡ x

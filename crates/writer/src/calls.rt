@@ -1,5 +1,4 @@
 ghost use Rattle.std.specs.Prelude.{◌≡◌};
-ghost use Rattle.spoc.specs.Sealing.{spoc as spoc_of};
 ghost use Rattle.cards.specs.Faults.{told, recorded};
 ghost use Rattle.cards.specs.Format.{a_sheet};
 ghost use Rattle.cards.specs.Plain.{Plain, start as plain_start, start_medium, append_answer, append_questions, appended, close_answer, closed_medium, left_by};
@@ -10,26 +9,26 @@ use cards::{
     CardFault, CardNo, HEAD_BYTES, HEADER_BYTES, Kind, MOST_BODY, MOST_SHEETS, RecordFault,
     RecordNo, make_head, make_header,
 };
-use spoc::{SealFault, Suite};
+use sealer::{SealFault, Sealer};
 use std::marker::PhantomData;
 
-impl<const B: usize, S: Suite<B> + Drop> Writer<B, S> {
+impl<C: Sealer + Drop> Writer<C> {
     // Starts a card on a medium: writes its header.
-    pub fn start(key: &[u8], number: u64, medium: &mut [u8]) -> Result<Writer<B, S>, CardFault>
-        ensures answer { Starts result medium.new (plain_start (spoc_of S.Bijection.meaning S.SuiteModel.plan) key.now number medium.old) }
-        ensures medium { medium.new ≡ start_medium (spoc_of S.Bijection.meaning S.SuiteModel.plan) key.now number medium.old }
+    pub fn start(key: &[u8], number: u64, medium: &mut [u8]) -> Result<Writer<C>, CardFault>
+        ensures answer { Starts result medium.new (plain_start C.meaning key.now number medium.old) }
+        ensures medium { medium.new ≡ start_medium C.meaning key.now number medium.old }
     {
         let key = <[u8; 16]>::try_from(key)
             .ok()
             .ok_or(CardFault::of_cipher(SealFault::KeyLength))?;
-        if medium.len() < HEADER_BYTES + HEAD_BYTES + S::RATE {
+        if medium.len() < HEADER_BYTES + HEAD_BYTES + C::WIDTH {
             return Err(CardNo::MediumShort.at(0, 0));
         }
-        let header = make_header(S::VERSION, number);
+        let header = make_header(C::VERSION, number);
         let (front, _) = medium.split_at_mut(HEADER_BYTES);
         front.copy_from_slice(&header);
         Ok(Writer {
-            suite: PhantomData,
+            sealer: PhantomData,
             key,
             header,
             count: 0,
@@ -39,7 +38,7 @@ impl<const B: usize, S: Suite<B> + Drop> Writer<B, S> {
 
     // The questions of append, of a body and a medium of such lengths. The answer is the record's number.
     fn ask(&self, body: usize, medium: usize) -> Result<usize, RecordFault>
-        ensures { recorded result ≡ append_questions S.SuiteModel.plan.rate self.now.count self.now.place body medium }
+        ensures { recorded result ≡ append_questions C.meaning.width self.now.count self.now.place body medium }
     {
         if self.count >= MOST_SHEETS {
             return Err(RecordNo::SheetsFull.at(self.count, self.place));
@@ -47,7 +46,7 @@ impl<const B: usize, S: Suite<B> + Drop> Writer<B, S> {
         if body > MOST_BODY {
             return Err(RecordNo::BodyLong.at(self.count, self.place));
         }
-        let end_record = HEAD_BYTES + S::RATE;
+        let end_record = HEAD_BYTES + C::WIDTH;
         if medium < self.place + (end_record + body) + end_record {
             return Err(RecordNo::MediumShort.at(self.count, self.place));
         }
@@ -62,22 +61,22 @@ impl<const B: usize, S: Suite<B> + Drop> Writer<B, S> {
         edition: u16,
         body: &[u8],
     ) -> Result<usize, CardFault>
-        ensures { (w : Plain) → Stands self.old medium.old w → (told result ≡ append_answer (spoc_of S.Bijection.meaning S.SuiteModel.plan) w (a_sheet cell edition body.now)) × Stands self.new medium.new (left_by (append_answer (spoc_of S.Bijection.meaning S.SuiteModel.plan) w (a_sheet cell edition body.now)) (appended (spoc_of S.Bijection.meaning S.SuiteModel.plan) w (a_sheet cell edition body.now)) w) }
+        ensures { (w : Plain) → Stands self.old medium.old w → (told result ≡ append_answer C.meaning w (a_sheet cell edition body.now)) × Stands self.new medium.new (left_by (append_answer C.meaning w (a_sheet cell edition body.now)) (appended C.meaning w (a_sheet cell edition body.now)) w) }
     {
         let n = self.ask(body.len(), medium.len())?;
         let head = make_head(Kind::Sheet.into(), cell, edition, body.len() as u16);
         self.put(&head, body, medium);
         self.count += 1;
-        self.place += HEAD_BYTES + body.len() + S::RATE;
+        self.place += HEAD_BYTES + body.len() + C::WIDTH;
         Ok(n)
     }
 
     // Writes the end record, and answers the card's length. A refused close gives the writer back.
-    pub fn close(self, medium: &mut [u8]) -> Result<usize, Unclosed<B, S>>
+    pub fn close(self, medium: &mut [u8]) -> Result<usize, Unclosed<C>>
         ensures back { Back result self }
-        ensures plain { (w : Plain) → Stands self medium.old w → (closing result ≡ close_answer (spoc_of S.Bijection.meaning S.SuiteModel.plan) w) × (medium.new ≡ left_by (close_answer (spoc_of S.Bijection.meaning S.SuiteModel.plan) w) (closed_medium (spoc_of S.Bijection.meaning S.SuiteModel.plan) w) w.medium) }
+        ensures plain { (w : Plain) → Stands self medium.old w → (closing result ≡ close_answer C.meaning w) × (medium.new ≡ left_by (close_answer C.meaning w) (closed_medium C.meaning w) w.medium) }
     {
-        let length = self.place + HEAD_BYTES + S::RATE;
+        let length = self.place + HEAD_BYTES + C::WIDTH;
         if medium.len() < length {
             let fault = CardNo::MediumShort.at(self.count, self.place);
             return Err(Unclosed {

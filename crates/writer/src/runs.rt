@@ -1,5 +1,4 @@
 ghost use Rattle.std.specs.Prelude.{◌≤◌, map, length, take};
-ghost use Rattle.spoc.specs.Sealing.{spoc as spoc_of};
 ghost use Rattle.cards.specs.Claims.{RunsHold};
 ghost use Rattle.cards.specs.Plain.{Plain};
 ghost use Rattle.cards.specs.Runs.{run};
@@ -8,7 +7,7 @@ ghost use Rattle.writer.specs.Stands.{Stands};
 
 use crate::writer::{Unclosed, Writer};
 use cards::CardFault;
-use spoc::Suite;
+use sealer::Sealer;
 
 // A call of a writer, its medium left out.
 #[derive(Clone, Copy)]
@@ -24,17 +23,17 @@ pub enum Call<'a> {
 // Makes the calls one after the other, each on the medium that the call before left, and puts what each answers into its slot. An accepted close comes last.
 // No more calls are made than there are slots; the answer is how many were made, and the slots after them stay.
 //
-// Answers and medium are those of the plain writer. Over every suite, a writer that has had only append and close since start never seals twice under
+// Answers and medium are those of the plain writer. Over every sealer, a writer that has had only append and close since start never seals twice under
 // one nonce, and its closed card reads as the accepted sheets, in order.
-pub fn replay<const B: usize, S: Suite<B> + Drop>(
-    writer: Writer<B, S>,
+pub fn replay<C: Sealer + Drop>(
+    writer: Writer<C>,
     medium: &mut [u8],
     calls: &[Call<'_>],
     answers: &mut [Result<usize, CardFault>],
 ) -> usize
-    ensures same { (w : Plain) → Stands writer medium.old w → Ran result answers.old answers.new medium.new (run (spoc_of S.Bijection.meaning S.SuiteModel.plan) w (map plain_call (take (length answers.old) calls.now))) }
+    ensures same { (w : Plain) → Stands writer medium.old w → Ran result answers.old answers.new medium.new (run C.meaning w (map plain_call (take (length answers.old) calls.now))) }
     ensures made { result ≤ length answers.old }
-    ensures holds { RunsHold (spoc_of S.Bijection.meaning S.SuiteModel.plan) }
+    ensures holds { RunsHold C.meaning }
 {
     let count = calls.len().min(answers.len());
     let mut open = writer;

@@ -1,12 +1,11 @@
 use Rattle.std.proofs.Common.{◌≤◌, length, take, ap, ◌∙◌, arith}
 use Rattle.std.proofs.lemmas.List.{with_items_is}
-use Rattle.spoc.specs.Sealing.{spoc}
 use Rattle.card_calls.proofs.Writers.{lines_are, medium_is, made_and}
 use Rattle.card_calls.proofs.writing.run_calls.Goals as goal
 
 pub returns : goal.returns
 returns g c = λ w s.
-    let S = spoc g.S.Bijection.meaning g.S.SuiteModel.plan in
+    let S = g.C.Sealer.meaning in
     let cs = c.args.calls.now in
     let before = c.as_mut_slice.result.now in
     let after = c.replay-made.new.answers in

@@ -1,5 +1,4 @@
 use Rattle.std.proofs.Common.{◌≡◌, List, ◌++◌, length, take, string_bytes}
-use Rattle.spoc.specs.Sealing.{spoc}
 use Rattle.cards.specs.Format.{Sheet}
 use Rattle.reader.specs.Cards.{shown}
 use Rattle.lister.specs.Printed.{sheet_lines, Holds}
@@ -8,4 +7,4 @@ use Rattle.lister.proofs.listing.list_sheets.Given as goal
 abbrev pub invariant-loop-i : goal.invariant-loop-i
 invariant-loop-i g l =
     (length l.buffer ≡ 4096)
-    × ((xs : List Sheet) → Holds (spoc g.S.Bijection.meaning g.S.SuiteModel.plan) (shown l.card) xs → string_bytes l.text ≡ string_bytes l.initial.text ++ sheet_lines 0 (take l.i xs))
+    × ((xs : List Sheet) → Holds g.C.Sealer.meaning (shown l.card) xs → string_bytes l.text ≡ string_bytes l.initial.text ++ sheet_lines 0 (take l.i xs))

@@ -1,8 +1,7 @@
 use Rattle.std.proofs.Common.{ℕ, ◌<◌, List, ◌++◌, Ok, Result, sym, ap, ◌∙◌, subst, arith}
 use Rattle.std.proofs.ByRecursion.{All-from_get_or}
 use Rattle.std.proofs.lemmas.Result.{err_from_is_err_and}
-use Rattle.spoc.specs.Sealing.{Sealing, Laws, Octets, spoc}
-use Rattle.spoc.proofs.Law.{spoc_laws}
+use Rattle.sealer.specs.Sealing.{Sealing, Laws, Octets}
 use Rattle.cards.specs.Faults.{Fault}
 use Rattle.cards.specs.Reader.{Card}
 use Rattle.lister.specs.Printed.{card_line, sheet_lines, Holds, Says}
@@ -11,10 +10,10 @@ use Rattle.lister.proofs.listing.list_under.Given as given
 use Rattle.lister.proofs.listing.list_under.Goals as goal
 
 abbrev cipher : given.Over → Sealing
-cipher g = spoc g.S.Bijection.meaning g.S.SuiteModel.plan
+cipher g = g.C.Sealer.meaning
 
 laws : (g : given.Over) → Laws (cipher g)
-laws g = spoc_laws g.S.Bijection.meaning g.S.SuiteModel.plan g.met.S.SuiteModel.sound g.S.Bijection.bijective
+laws g = g.met.C.Sealer.laws
 
 pub returns-in_err-check : goal.returns-in_err-check
 returns-in_err-check g c =
@@ -31,6 +30,6 @@ returns g c =
     let held = subst (λ (d : Card). Holds S d x.sheets) (sym is) x.holds in
     let text =
     c.in_ok-to_string.ensures.ok
-    ∙ ap (λ v. card_line c.args.number v c.count.result) (c.VERSION.ensures ∙ g.met.S.Suite.version_is)
+    ∙ ap (λ v. card_line c.args.number v c.count.result) (c.VERSION.ensures ∙ g.met.C.Sealer.version_is)
     ∙ ap (card_line c.args.number S.version) (c.count.ensures ∙ ap (λ (d : Card). d.count) is) in
     subst (λ (a : Result (List ℕ) Fault). Says c.list_sheets.result a) (ap (λ (l : List ℕ). Ok (l ++ sheet_lines 0 x.sheets)) text ∙ sym x.text) (c.list_sheets.ensures x.sheets held)

@@ -1,6 +1,6 @@
 use Rattle.std.proofs.Common.{◌≡◌, length, take, Err, sym, ap, ◌∙◌, arith}
 use Rattle.std.proofs.lemmas.Result.{err_from_is_err_and}
-use Rattle.spoc.specs.Sealing.{Sealing, spoc}
+use Rattle.sealer.specs.Sealing.{Sealing}
 use Rattle.cards.specs.Faults.{told}
 use Rattle.cards.specs.Reader.{sheet_answer, sheet_at}
 use Rattle.reader.specs.Cards.{shown}
@@ -12,7 +12,7 @@ use Rattle.reader.proofs.sheets.sheet.Goals as goal
 use Rattle.reader.proofs.sheets.sheet.Goals.{After-from_residual}
 
 abbrev cipher : given.Over → Sealing
-cipher g = spoc g.S.Bijection.meaning g.S.SuiteModel.plan
+cipher g = g.C.Sealer.meaning
 
 pub front-requires : goal.front-requires
 front-requires g c = (omega arith, header_long c.args.card.now c.args.i (omega arith))
@@ -21,15 +21,15 @@ pub open_sheet-requires : goal.open_sheet-requires
 open_sheet-requires g c =
     let at : From c.args.card.now c.args.i c.rest_at.result = record { number = c.rest_at.ensures.number; place_is = c.rest_at.ensures.place; bytes = c.rest_at.ensures.bytes } in
     let f = fits c.args.card.now c.args.i c.rest_at.result at (omega arith) in
-    omega (arith, f, (c.RATE.ensures ∙ g.met.S.Suite.rate_is))
+    omega (arith, f, (c.WIDTH.ensures ∙ g.met.C.Sealer.width_is))
 
 -- a refusal of open_sheet, to the card
 refused_is : (g : given.Over) (c : After-from_residual g) → told c.from_residual.result ≡ headed (sheet_answer (cipher g) (shown c.args.card.now) c.args.i (length c.args.buffer.now))
 refused_is g c =
     let card = c.args.card.now in
     let S = cipher g in
-    let hv : card.version ≡ S.version = omega (arith, (c.VERSION.ensures ∙ g.met.S.Suite.version_is)) in
-    let hr : card.rate ≡ S.rate = omega (arith, (c.RATE.ensures ∙ g.met.S.Suite.rate_is)) in
+    let hv : card.version ≡ S.version = omega (arith, (c.VERSION.ensures ∙ g.met.C.Sealer.version_is)) in
+    let hr : card.width ≡ S.width = omega (arith, (c.WIDTH.ensures ∙ g.met.C.Sealer.width_is)) in
     let o = length c.args.buffer.now in
     let x = c.rest_at.result in
     let h = take 13 card.bytes.now in

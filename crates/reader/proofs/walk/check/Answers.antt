@@ -1,7 +1,6 @@
 use Rattle.std.proofs.Common.{◌≡◌, ℕ, suc, ◌≤◌, List, length, Err, Result, sym, ap, ◌∙◌, arith, rules}
 use Rattle.std.proofs.lemmas.Result.{err_from_is_err_and}
-use Rattle.spoc.specs.Sealing.{Sealing, Laws, spoc}
-use Rattle.spoc.proofs.Law.{spoc_laws}
+use Rattle.sealer.specs.Sealing.{Sealing, Laws}
 use Rattle.cards.specs.Faults.{Fault, told, of_card}
 use Rattle.cards.specs.Reader.{Card, check_bytes, filled, how_many, place_of}
 use Rattle.cards.proofs.Claims.{reads_as_written, all_writable}
@@ -13,10 +12,10 @@ use Rattle.reader.proofs.walk.check.Given as given
 use Rattle.reader.proofs.walk.check.Goals as goal
 
 abbrev cipher : given.Over → Sealing
-cipher g = spoc g.S.Bijection.meaning g.S.SuiteModel.plan
+cipher g = g.C.Sealer.meaning
 
 laws : (g : given.Over) → Laws (cipher g)
-laws g = spoc_laws g.S.Bijection.meaning g.S.SuiteModel.plan g.met.S.SuiteModel.sound g.S.Bijection.bijective
+laws g = g.met.C.Sealer.laws
 
 pub returns-in_err-key-clause-as_written : goal.returns-in_err-key-clause-as_written
 returns-in_err-key-clause-as_written g c = reads_as_written (cipher g) (laws g)
@@ -46,7 +45,7 @@ returns-in_err-count g c =
     let bs = c.args.bytes.now in
     let s = c.args.scratch.now in
     let key = read_of k c.try_from.result c.in_ok-key.key c.try_from.ensures.1 (sym c.ok.ensures.value ∙ c.in_ok-key.ensures.ok_part) in
-    let room : 4096 ≤ length s = search rules in
+    let room : 16 ≤ length s = search rules in
     let f = of_card c.in_err-count.field-0.0 in
     let e = refused_at (cipher g) k bs (length s) key.long room f (counted g k c.in_ok-key.key bs (Err f) key.same c.in_err-count.ensures.answer) in
     let res = err_from_is_err_and c.from_residual-in_err-count.result c.from_residual-in_err-count.ensures.1 in
@@ -59,7 +58,7 @@ returns-in_err-count g c =
       once = reads_once (cipher g);
     }
 
-same_card : {k k' : List ℕ} {v v' r r' n n' : ℕ} (bs : List ℕ) → k ≡ k' → v ≡ v' → r ≡ r' → n ≡ n' → ◌≡◌ {A = Card} (record { bytes = bs; key = k; version = v; rate = r; count = n }) (record { bytes = bs; key = k'; version = v'; rate = r'; count = n' })
+same_card : {k k' : List ℕ} {v v' r r' n n' : ℕ} (bs : List ℕ) → k ≡ k' → v ≡ v' → r ≡ r' → n ≡ n' → ◌≡◌ {A = Card} (record { bytes = bs; key = k; version = v; width = r; count = n }) (record { bytes = bs; key = k'; version = v'; width = r'; count = n' })
 same_card bs p q r s = cc
 
 pub invariant_of-card : goal.invariant_of-card
@@ -68,12 +67,12 @@ invariant_of-card g c =
     let bs = c.args.bytes.now in
     let s = c.args.scratch.now in
     let key = read_of k c.try_from.result c.in_ok-key.key c.try_from.ensures.1 (sym c.ok.ensures.value ∙ c.in_ok-key.ensures.ok_part) in
-    let room : 4096 ≤ length s = search rules in
+    let room : 16 ≤ length s = search rules in
     let x = filled_at (cipher g) k bs (length s) key.long room c.in_ok-count.count (counted g k c.in_ok-key.key bs _ key.same c.in_ok-count.ensures.answer) in
     record {
-      runs = λ _. ap (λ r. place_of r bs (suc c.in_ok-count.count)) (c.RATE.ensures ∙ g.met.S.Suite.rate_is) ∙ x.runs;
+      runs = λ _. ap (λ r. place_of r bs (suc c.in_ok-count.count)) (c.WIDTH.ensures ∙ g.met.C.Sealer.width_is) ∙ x.runs;
       none = λ none. absurd (omega (arith, x.long));
-      small = omega (arith, (c.RATE.ensures ∙ g.met.S.Suite.rate_is), g.met.S.SuiteModel.sound.rate_high);
+      small = omega (arith, (c.WIDTH.ensures ∙ g.met.C.Sealer.width_is), g.met.C.Sealer.laws.width_high);
     }
 
 pub returns : goal.returns
@@ -82,11 +81,11 @@ returns g c =
     let bs = c.args.bytes.now in
     let s = c.args.scratch.now in
     let key = read_of k c.try_from.result c.in_ok-key.key c.try_from.ensures.1 (sym c.ok.ensures.value ∙ c.in_ok-key.ensures.ok_part) in
-    let room : 4096 ≤ length s = search rules in
+    let room : 16 ≤ length s = search rules in
     let x = filled_at (cipher g) k bs (length s) key.long room c.in_ok-count.count (counted g k c.in_ok-key.key bs _ key.same c.in_ok-count.ensures.answer) in
     record {
       answer = ap passes (sym x.is);
-      fills = same_card bs key.same (c.VERSION.ensures ∙ g.met.S.Suite.version_is) (c.RATE.ensures ∙ g.met.S.Suite.rate_is) (sym x.many) ∙ ap filled (sym x.is);
+      fills = same_card bs key.same (c.VERSION.ensures ∙ g.met.C.Sealer.version_is) (c.WIDTH.ensures ∙ g.met.C.Sealer.width_is) (sym x.many) ∙ ap filled (sym x.is);
       scratch = wiped_over k s _ key.long room c.in_ok-count.ensures.zero;
       as_written = reads_as_written (cipher g) (laws g);
       writable = all_writable (cipher g) (laws g);

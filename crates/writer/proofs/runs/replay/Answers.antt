@@ -1,7 +1,5 @@
 use Rattle.std.proofs.Common.{◌<◌, List, [], ◌∷◌, ◌++◌, length, take, refl, ap, ◌∙◌, subst, arith}
 use Rattle.std.proofs.lemmas.List.{length-take, take_more_set}
-use Rattle.spoc.specs.Sealing.{spoc}
-use Rattle.spoc.proofs.Law.{spoc_laws}
 use Rattle.cards.specs.Claims.{RunsHold}
 use Rattle.cards.proofs.Claims.{runs_hold}
 use Rattle.writer.specs.declared.runs.Call.{Call}
@@ -10,8 +8,8 @@ use Rattle.writer.proofs.runs.replay.Given as given
 use Rattle.writer.proofs.runs.replay.Goals as goal
 use Rattle.writer.proofs.runs.replay.Goals.{in-Append, in-Close+in-Err}
 
-hold : (g : given.Over) → RunsHold (spoc g.S.Bijection.meaning g.S.SuiteModel.plan)
-hold g = runs_hold (spoc g.S.Bijection.meaning g.S.SuiteModel.plan) (spoc_laws g.S.Bijection.meaning g.S.SuiteModel.plan g.met.S.SuiteModel.sound g.S.Bijection.bijective)
+hold : (g : given.Over) → RunsHold g.C.Sealer.meaning
+hold g = runs_hold g.C.Sealer.meaning g.met.C.Sealer.laws
 
 pub returns-in-Ok-clause-holds : goal.returns-in-Ok-clause-holds
 returns-in-Ok-clause-holds g c = hold g
@@ -30,12 +28,12 @@ loop-i-preserved g c =
       others_stay c.loop-i.answers _ c.args.answers.now i c.match-call.answer refl c.loop-i.invariant.0,
       elim c.match-call.branch [
         | in-Append w ↦
-            goes_append (spoc g.S.Bijection.meaning g.S.SuiteModel.plan) c.args.writer c.args.medium.now calls (take i c.loop-i.answers) c.loop-i.open c.loop-i.medium i c.loop-i.invariant.1 _ within
+            goes_append g.C.Sealer.meaning c.args.writer c.args.medium.now calls (take i c.loop-i.answers) c.loop-i.open c.loop-i.medium i c.loop-i.invariant.1 _ within
             w.in-Append.cell w.in-Append.edition w.in-Append.body w.append-answer.result c.match-call.open c.match-call.medium _
             (called _ calls i _ _ part w.in-Append.is) (next ∙ ap (λ a. take i c.loop-i.answers ++ (a ∷ [])) w.answer-is)
             (λ q s. let y = w.append-answer.ensures q s in (y.0, stands_at w.open-is w.medium-is y.1))
         | in-Close+in-Err w ↦
-            goes_refused (spoc g.S.Bijection.meaning g.S.SuiteModel.plan) c.args.writer c.args.medium.now calls (take i c.loop-i.answers) c.loop-i.open c.loop-i.medium i c.loop-i.invariant.1 _ within
+            goes_refused g.C.Sealer.meaning c.args.writer c.args.medium.now calls (take i c.loop-i.answers) c.loop-i.open c.loop-i.medium i c.loop-i.invariant.1 _ within
             w.in-Err.unclosed.fault c.match-call.open c.match-call.medium _
             (called _ calls i _ _ part w.in-Close.is) (next ∙ ap (λ a. take i c.loop-i.answers ++ (a ∷ [])) w.answer-is) (w.open-is ∙ w.in-Err.ensures.back)
             (λ q s. let y = w.in-Err.ensures.plain q s in (y.0, w.medium-is ∙ y.1))

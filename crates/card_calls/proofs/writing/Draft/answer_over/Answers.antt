@@ -1,7 +1,6 @@
 use Rattle.std.proofs.Common.{◌≡◌, ℕ, List, replicate, vec_items, string_bytes, ap, ◌∙◌, arith, rules}
 use Rattle.std.proofs.lemmas.List.{with_items_is}
 use Rattle.std.specs.Vec.{with_items}
-use Rattle.spoc.specs.Sealing.{spoc}
 use Rattle.card_calls.specs.Writings.{Written, draft_in, write_on, written_text, draft_over}
 use Rattle.card_calls.proofs.Writers.{made_same}
 use Rattle.card_calls.proofs.writing.Draft.answer_over.Goals as goal
@@ -9,7 +8,7 @@ use Rattle.card_calls.proofs.writing.Draft.answer_over.Goals as goal
 pub returns : goal.returns
 unfolding draft_in draft_over
 returns g c =
-    let S = spoc g.S.Bijection.meaning g.S.SuiteModel.plan in
+    let S = g.C.Sealer.meaning in
     let d = draft_in c.args.self.now in
     let filled : vec_items c.in_ok-medium.medium ≡ replicate d.size d.fill = search rules in
     let em = c.as_mut_slice.ensures.value ∙ filled in

@@ -1,5 +1,4 @@
 use Rattle.std.proofs.Common.{◌≡◌, ℕ, List, ◌++◌, map, IfOk, Ok, Err, string_bytes, codes, sym, ap, ◌∙◌, rules}
-use Rattle.spoc.specs.Sealing.{spoc}
 use Rattle.cards.specs.Faults.{of_card}
 use Rattle.cards.specs.Plain.{start}
 use Rattle.writer.specs.Replay.{plain_call}
@@ -11,7 +10,7 @@ use Rattle.card_calls.proofs.writing.Draft.write_on.Goals as goal
 pub returns-in-Ok : goal.returns-in-Ok
 unfolding draft_in
 returns-in-Ok g c =
-    let S = spoc g.S.Bijection.meaning g.S.SuiteModel.plan in
+    let S = g.C.Sealer.meaning in
     let d = draft_in c.args.self.now in
     let m = c.args.medium.now in
     let k = c.as_slice-2.ensures.value in
@@ -30,13 +29,13 @@ returns-in-Ok g c =
 pub returns : goal.returns
 unfolding draft_in
 returns g c =
-    let S = spoc g.S.Bijection.meaning g.S.SuiteModel.plan in
+    let S = g.C.Sealer.meaning in
     let d = draft_in c.args.self.now in
     let m = c.args.medium.now in
     let f = of_card c.in-Err.fault in
     let mm = c.start.new.medium in
     let key = c.as_slice-2.result.now in
-    let e0 : start S key d.number m ≡ Err f = refused_as g.row.B g.row.S.Denot c.in-Err.fault mm (start S key d.number m) c.in-Err.ensures.answer in
+    let e0 : start S key d.number m ≡ Err f = refused_as g.row.C.Denot c.in-Err.fault mm (start S key d.number m) c.in-Err.ensures.answer in
     let e : start S d.key d.number m ≡ Err f = ap (λ (x : List ℕ). start S x d.number m) (sym c.as_slice-2.ensures.value) ∙ e0 in
     let stays = medium_stays S key d.number m mm f e0 c.in-Err.ensures.medium in
     let text : IfOk c.format-in-Err.result (λ t. string_bytes t ≡ refused_line f) = search rules in
