@@ -5,9 +5,11 @@ use Rattle.sealer.specs.Sealing.{Sealing, Laws}
 use Rattle.cards.specs.Format.{Sheet, card}
 use Rattle.cards.specs.Plain.{Plain}
 use Rattle.cards.specs.Runs.{run, accepted}
-use Rattle.cards.specs.Claims.{Well, Reads, Gives, ReadsAsWritten, AllWritable, RunsHold}
+use Rattle.cards.specs.Claims.{Well, Reads, Gives, ReadsAsWritten, AllWritable, RunsHold, CardClaims}
 use Rattle.cards.proofs.Records.{Fit}
-use Rattle.cards.proofs.Reading.{card_reads, reads_card, checked_back}
+use Rattle.cards.proofs.Large.{checks_as_opened}
+use Rattle.cards.proofs.Reading.{card_reads, reads_card, checked_back, reads_once}
+use Rattle.cards.proofs.Sizes.{sizes_told}
 use Rattle.cards.proofs.Writing.{Kept, started_kept, start_passed}
 use Rattle.cards.proofs.Runs.{card_writes, writes_card, run_shows, Closed}
 use Rattle.cards.proofs.CardOctets.{card_octets}
@@ -36,6 +38,15 @@ module _ (S : Sealing) (L : Laws S) where
   all_writable key number sheets hk hn well few short =
       let fit = fits sheets well short in
       (card S key number sheets, card_octets S L key hk number sheets well, gives_card key number sheets hk.size well fit few, card_reads S L key number sheets hk.size fit few)
+
+  pub card_claims : CardClaims S
+  card_claims = record {
+    as_written = reads_as_written;
+    writable = all_writable;
+    once = reads_once S;
+    sizes = sizes_told S L;
+    as_opened = checks_as_opened S L;
+  }
 
   pub runs_hold : RunsHold S
   runs_hold key number medium w starts calls well =

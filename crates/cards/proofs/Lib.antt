@@ -12,3 +12,5 @@ pub mod Runs
 pub mod Nonces
 pub mod Claims
 pub mod Finding
+pub mod Sizes
+pub mod Large

@@ -1,10 +1,12 @@
 -- What holds of cards, over every cipher that keeps its laws.
-use Rattle.std.specs.Prelude.{◌≡◌, ℕ, ◌^◌, ◌<◌, ◌≤◌, true, List, [], ◌∷◌, ◌++◌, map, length, get_or, take, is_ok, Some, Ok, Option, Result, slice_index_or}
+use Rattle.std.specs.Prelude.{◌≡◌, ℕ, ◌^◌, ◌<◌, ◌≤◌, true, List, [], ◌∷◌, ◌++◌, map, length, get_or, take, is_ok, Some, None, Ok, Err, Option, Result, slice_index_or}
 use Rattle.std.specs.List.{AllByRecursion}
 use Rattle.permutations.specs.Permutation.{Bytes}
+use Rattle.sealer.specs.Seal.{Opened, scratch_bytes, opened}
 use Rattle.sealer.specs.Sealing.{Sealing, Octets}
+use Rattle.sealer.specs.declared.SealFault.{SealFault}
 use Rattle.cards.specs.Faults.{Fault}
-use Rattle.cards.specs.Format.{Sheet}
+use Rattle.cards.specs.Format.{Sheet, card_bytes}
 use Rattle.cards.specs.Plain.{Plain, start}
 use Rattle.cards.specs.Runs.{Call, append, close, run, accepted, Distinct}
 use Rattle.cards.specs.Reader.{Card, check, sheet_answer, Finds, Found}
@@ -18,7 +20,7 @@ pub record Well (s : Sheet) : Type 0 where
 -- Bytes read as a list of sheets: scratch and buffers being long enough, check passes them, count is the list's length and sheet i gives its sheet i.
 pub record Reads (S : Sealing) (key bytes : List ℕ) (sheets : List Sheet) : Type 0 where
   pub card : Card
-  pub passes : (scratch : ℕ) → 16 ≤ scratch → check S key scratch bytes ≡ Ok card
+  pub passes : (scratch : ℕ) → scratch_bytes ≤ scratch → check S key scratch bytes ≡ Ok card
   pub counts : card.count ≡ length sheets
   pub gives : (i buffer : ℕ) (d : Sheet) → i < length sheets → length (get_or sheets i d).body ≤ buffer → sheet_answer S card i buffer ≡ Ok (slice_index_or sheets i d)
 
@@ -80,3 +82,38 @@ abbrev pub FindTells : Sealing → Type 0
 FindTells S =
     (key bytes : List ℕ) (sheets : List Sheet) (a : Reads S key bytes sheets) (cell : ℕ) (o : Option ℕ) (d : Sheet) →
     Finds a.card cell o → Found (length sheets) (λ i. (get_or sheets i d).cell) (λ i. (get_or sheets i d).edition) cell o
+
+-- A card that reads as a list of sheets has card_bytes of them, under the sealer's width.
+abbrev pub SizesTold : Sealing → Type 0
+SizesTold S = (key bytes : List ℕ) (sheets : List Sheet) → Octets bytes → Reads S key bytes sheets → length bytes ≡ card_bytes S.width sheets
+
+-- a message, if it was opened
+abbrev pub if_opened : Result (Unit {0}) SealFault → List ℕ → Option (List ℕ)
+if_opened (Ok _) m = Some m
+if_opened (Err f) m = None
+
+-- the cipher as whoever opens with open sees it: a message is what open puts to the front of a buffer, which held `held n` before the record of nonce n was opened
+abbrev pub through_open : (List ℕ → List ℕ) → Sealing → Sealing
+through_open held S = record {
+  version = S.version;
+  width = S.width;
+  ciphertext = S.ciphertext;
+  tag = S.tag;
+  opens = λ k n d c t.
+      let x : Opened = opened S k n d c (held n) t in
+      if_opened x.answer (take (length c) x.out);
+}
+
+-- Check answers as a check that opens each body into 4,096 bytes or more, whatever these hold, and fills the card alike.
+abbrev pub ChecksAsOpened : Sealing → Type 0
+ChecksAsOpened S =
+    (key bytes : List ℕ) (scratch : ℕ) (held : List ℕ → List ℕ) → scratch_bytes ≤ scratch → ((n : List ℕ) → 4096 ≤ length (held n)) →
+    check S key scratch bytes ≡ check (through_open held S) key 4096 bytes
+
+-- What holds of the cards of every sealer.
+pub record CardClaims (S : Sealing) : Type 0 where
+  pub as_written : ReadsAsWritten S
+  pub writable : AllWritable S
+  pub once : ReadsOnce S
+  pub sizes : SizesTold S
+  pub as_opened : ChecksAsOpened S

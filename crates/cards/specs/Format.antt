@@ -1,5 +1,5 @@
 -- The bytes of a card.
-use Rattle.std.specs.Prelude.{ℕ, suc, ◌/◌, ◌%◌, List, [], ◌∷◌, ◌++◌, length, drop}
+use Rattle.std.specs.Prelude.{ℕ, suc, ◌+◌, ◌/◌, ◌%◌, List, [], ◌∷◌, ◌++◌, length, drop}
 use Rattle.sealer.specs.Sealing.{Sealing}
 
 -- numbers of 2, 4 and 8 bytes, the highest byte first
@@ -57,3 +57,16 @@ abbrev pub card : Sealing → List ℕ → ℕ → List Sheet → List ℕ
 card S key number xs =
     let h = header S.version number in
     h ++ (records S key h 0 xs ++ end_record S key h (length xs))
+
+-- how many bytes a record has under tags of w bytes, of a body of b bytes
+abbrev pub record_bytes : ℕ → ℕ → ℕ
+record_bytes w b = 9 + b + w
+
+-- how many bytes the records of sheets have
+abbrev pub records_bytes : ℕ → List Sheet → ℕ
+records_bytes w [] = 0
+records_bytes w (s ∷ xs) = record_bytes w (length s.body) + records_bytes w xs
+
+-- how many bytes a card of these sheets has
+abbrev pub card_bytes : ℕ → List Sheet → ℕ
+card_bytes w xs = 13 + (records_bytes w xs + record_bytes w 0)

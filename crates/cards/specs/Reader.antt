@@ -2,6 +2,7 @@
 use Rattle.std.specs.Prelude.{◌≡◌, ℕ, zero, suc, ◌+◌, ◌*◌, ◌<◌, ◌≤◌, cond, ◌&&◌, List, [], ◌∷◌, ◌++◌, length, take, drop, replicate, Some, None, Ok, Err, Option, Result, ◌==◌, ◌≢◌, nat_le, nat_lt, slice_index}
 use Rattle.std.specs.List.{between}
 use Rattle.std.specs.Str.{bytes_eq}
+use Rattle.sealer.specs.Seal.{scratch_bytes}
 use Rattle.sealer.specs.Sealing.{Sealing}
 use Rattle.cards.specs.Faults.{Fault, fault, and_then}
 use Rattle.cards.specs.Format.{mark, nonce, Sheet, a_sheet}
@@ -117,7 +118,7 @@ checked S k bs xs = record { bytes = bs; key = k; version = S.version; width = S
 abbrev pub check : Sealing → List ℕ → ℕ → List ℕ → Result Card Fault
 check S key scratch bs =
     cond (length key == 16)
-    (cond (nat_le 16 scratch)
+    (cond (nat_le scratch_bytes scratch)
     (and_then (check_bytes S key bs) (λ xs. Ok (checked S key bs xs)))
     (Err (fault 4 1 0 0)))
     (Err (fault 1 1 0 0))
@@ -131,13 +132,13 @@ abbrev pub filled : Result Card Fault → Card
 filled (Ok c) = c
 filled (Err f) = empty
 
--- the scratch with its first 16 bytes zero
+-- the scratch with the bytes that check asks for zero
 unfoldable pub wiped : List ℕ → List ℕ
-wiped s = replicate 16 0 ++ drop 16 s
+wiped s = replicate scratch_bytes 0 ++ drop scratch_bytes s
 
 -- the scratch that check leaves: it is touched only past questions 1 and 4
 abbrev pub scratch_after : List ℕ → List ℕ → List ℕ
-scratch_after key s = cond (length key == 16) (cond (nat_le 16 (length s)) (wiped s) s) s
+scratch_after key s = cond (length key == 16) (cond (nat_le scratch_bytes (length s)) (wiped s) s) s
 
 -- where record i begins
 abbrev pub place_of : ℕ → List ℕ → ℕ → ℕ

@@ -7,7 +7,7 @@ ghost use Rattle.reader.specs.Said.{said, tried, open_answer, open_output};
 
 use crate::rest::{Record, Rest, SheetHead};
 use cards::{At, HEAD_BYTES, RecordFault, SealedFault, record_data, record_nonce};
-use sealer::Sealer;
+use sealer::{SCRATCH_BYTES, Sealer};
 
 // What the records of a card are opened with: its key and its header.
 #[derive(Clone, Copy)]
@@ -58,7 +58,7 @@ impl CardKey<'_> {
         body: &[u8],
         tag: &[u8],
         place: usize,
-        scratch: &mut [u8; 16],
+        scratch: &mut [u8; SCRATCH_BYTES],
     ) -> Result<(), SealedFault>
         requires head { 9 ≤ length rest.now.bytes.now }
         requires lengths { (length body.now ≤ 65535) × (length tag.now ≡ C.meaning.width) }
@@ -79,7 +79,7 @@ impl CardKey<'_> {
     pub(crate) fn read<'a, C: Sealer>(
         &self,
         rest: &Rest<'a>,
-        scratch: &mut [u8; 16],
+        scratch: &mut [u8; SCRATCH_BYTES],
     ) -> Result<Record<'a>, RecordFault>
         ensures { said result ≡ tried C.meaning self.now.key.now self.now.header.now rest.now.number rest.now.place rest.now.bytes.now }
     {

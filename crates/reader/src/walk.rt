@@ -1,5 +1,5 @@
 ghost use Rattle.std.specs.Prelude.{◌≡◌, length, replicate};
-ghost use Rattle.cards.specs.Claims.{ReadsAsWritten, AllWritable, ReadsOnce};
+ghost use Rattle.cards.specs.Claims.{CardClaims};
 ghost use Rattle.cards.specs.Faults.{told};
 ghost use Rattle.cards.specs.Reader.{check as check_of, check_bytes, filled, how_many, scratch_after, walk};
 ghost use Rattle.reader.specs.Cards.{shown, passes};
@@ -8,16 +8,13 @@ use crate::card::Card;
 use crate::key::CardKey;
 use crate::rest::{Record, Rest};
 use cards::{CardFault, CardNo, HEAD_BYTES, HEADER_BYTES, MARK};
-use sealer::{SealFault, Sealer};
-
-// How many bytes of scratch check asks for: what a sealer's test asks for.
-const SCRATCH: usize = 16;
+use sealer::{SCRATCH_BYTES, SealFault, Sealer};
 
 // Walks the records of a card, and counts the sheets.
 fn walk_records<C: Sealer>(
     key: &CardKey<'_>,
     records: Rest<'_>,
-    scratch: &mut [u8; SCRATCH],
+    scratch: &mut [u8; SCRATCH_BYTES],
 ) -> Result<usize, CardFault>
     requires { (records.number ≡ 0) × (records.place ≡ 13) }
     ensures { told result ≡ how_many 0 (walk C.meaning key.now.key.now key.now.header.now 512 0 13 records.entry.bytes.now) }
@@ -40,7 +37,7 @@ fn walk_records<C: Sealer>(
 
 // Guards the part of a scratch that check uses: it is zero when the guard ends.
 struct Wipe<'a> {
-    bytes: &'a mut [u8; SCRATCH],
+    bytes: &'a mut [u8; SCRATCH_BYTES],
 }
 
 impl Drop for Wipe<'_> {
@@ -56,7 +53,7 @@ impl Drop for Wipe<'_> {
 fn walk_card<C: Sealer>(
     key: &[u8; 16],
     bytes: &[u8],
-    scratch: &mut [u8; SCRATCH],
+    scratch: &mut [u8; SCRATCH_BYTES],
 ) -> Result<usize, CardFault>
     ensures answer { told result ≡ how_many 0 (check_bytes C.meaning key.now bytes.now) }
     ensures zero { scratch.new ≡ replicate 16 0 }
@@ -93,16 +90,14 @@ pub fn check<'a, C: Sealer>(
     ensures answer { told result ≡ passes (check_of C.meaning key.now (length scratch.old) bytes.now) }
     ensures fills { shown card.new ≡ filled (check_of C.meaning key.now (length scratch.old) bytes.now) }
     ensures scratch { scratch.new ≡ scratch_after key.now scratch.old }
-    ensures as_written { ReadsAsWritten C.meaning }
-    ensures writable { AllWritable C.meaning }
-    ensures once { ReadsOnce C.meaning }
+    ensures claims { CardClaims C.meaning }
 {
     *card = Card::empty();
     let key = <[u8; 16]>::try_from(key)
         .ok()
         .ok_or(CardFault::of_cipher(SealFault::KeyLength))?;
     let part = scratch
-        .first_chunk_mut::<SCRATCH>()
+        .first_chunk_mut::<SCRATCH_BYTES>()
         .ok_or(CardFault::of_cipher(SealFault::OutputShort))?;
     let count = walk_card::<C>(&key, bytes, part)?;
     *card = Card {

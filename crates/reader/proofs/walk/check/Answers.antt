@@ -3,8 +3,7 @@ use Rattle.std.proofs.lemmas.Result.{err_from_is_err_and}
 use Rattle.sealer.specs.Sealing.{Sealing, Laws}
 use Rattle.cards.specs.Faults.{Fault, told, of_card}
 use Rattle.cards.specs.Reader.{Card, check_bytes, filled, how_many, place_of}
-use Rattle.cards.proofs.Claims.{reads_as_written, all_writable}
-use Rattle.cards.proofs.Reading.{reads_once}
+use Rattle.cards.proofs.Claims.{card_claims}
 use Rattle.reader.specs.Cards.{passes}
 use Rattle.reader.proofs.Checking.{read_of, refused_at, filled_at}
 use Rattle.reader.proofs.Wiping.{wiped_over}
@@ -17,23 +16,11 @@ cipher g = g.C.Sealer.meaning
 laws : (g : given.Over) → Laws (cipher g)
 laws g = g.met.C.Sealer.laws
 
-pub returns-in_err-key-clause-as_written : goal.returns-in_err-key-clause-as_written
-returns-in_err-key-clause-as_written g c = reads_as_written (cipher g) (laws g)
+pub returns-in_err-key-clause-claims : goal.returns-in_err-key-clause-claims
+returns-in_err-key-clause-claims g c = card_claims (cipher g) (laws g)
 
-pub returns-in_err-key-clause-writable : goal.returns-in_err-key-clause-writable
-returns-in_err-key-clause-writable g c = all_writable (cipher g) (laws g)
-
-pub returns-in_err-key-clause-once : goal.returns-in_err-key-clause-once
-returns-in_err-key-clause-once g c = reads_once (cipher g)
-
-pub returns-in_err-part-clause-as_written : goal.returns-in_err-part-clause-as_written
-returns-in_err-part-clause-as_written g c = reads_as_written (cipher g) (laws g)
-
-pub returns-in_err-part-clause-writable : goal.returns-in_err-part-clause-writable
-returns-in_err-part-clause-writable g c = all_writable (cipher g) (laws g)
-
-pub returns-in_err-part-clause-once : goal.returns-in_err-part-clause-once
-returns-in_err-part-clause-once g c = reads_once (cipher g)
+pub returns-in_err-part-clause-claims : goal.returns-in_err-part-clause-claims
+returns-in_err-part-clause-claims g c = card_claims (cipher g) (laws g)
 
 -- the count of the walk under the key as it was handed in
 counted : (g : given.Over) (k k' bs : List ℕ) (a : Result ℕ Fault) → k' ≡ k → a ≡ how_many 0 (check_bytes (cipher g) k' bs) → a ≡ how_many 0 (check_bytes (cipher g) k bs)
@@ -53,9 +40,7 @@ returns-in_err-count g c =
       answer = ap told (res.1 ∙ ap Err res.2) ∙ ap passes (sym e);
       fills = c.empty.ensures ∙ ap filled (sym e);
       scratch = wiped_over k s _ key.long room c.in_err-count.ensures.zero;
-      as_written = reads_as_written (cipher g) (laws g);
-      writable = all_writable (cipher g) (laws g);
-      once = reads_once (cipher g);
+      claims = card_claims (cipher g) (laws g);
     }
 
 same_card : {k k' : List ℕ} {v v' r r' n n' : ℕ} (bs : List ℕ) → k ≡ k' → v ≡ v' → r ≡ r' → n ≡ n' → ◌≡◌ {A = Card} (record { bytes = bs; key = k; version = v; width = r; count = n }) (record { bytes = bs; key = k'; version = v'; width = r'; count = n' })
@@ -87,7 +72,5 @@ returns g c =
       answer = ap passes (sym x.is);
       fills = same_card bs key.same (c.VERSION.ensures ∙ g.met.C.Sealer.version_is) (c.WIDTH.ensures ∙ g.met.C.Sealer.width_is) (sym x.many) ∙ ap filled (sym x.is);
       scratch = wiped_over k s _ key.long room c.in_ok-count.ensures.zero;
-      as_written = reads_as_written (cipher g) (laws g);
-      writable = all_writable (cipher g) (laws g);
-      once = reads_once (cipher g);
+      claims = card_claims (cipher g) (laws g);
     }
