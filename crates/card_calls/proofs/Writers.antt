@@ -14,7 +14,7 @@ use Rattle.writer.specs.Stands.{Stands, Starts}
 use Rattle.writer.specs.declared.Call as code
 use Rattle.writer.specs.declared.Writer.{Writer}
 use Rattle.card_calls.specs.Readings.{refused_line}
-use Rattle.card_calls.specs.Suites.{cipher_of}
+use Rattle.spoc_sealer.specs.Ciphers.{cipher_of}
 use Rattle.card_calls.specs.Writings.{Draft, Written, step_call, draft_in, with_call, call_line, call_lines, write_on, written, draft_over, draft_text}
 use Rattle.card_calls.specs.declared.writing.Draft as code_draft
 use Rattle.card_calls.specs.declared.writing.Step.{Step}

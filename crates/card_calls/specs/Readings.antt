@@ -1,6 +1,7 @@
 -- What the calls of the reader read and print. Assumes nothing.
 use Rattle.std.specs.Prelude.{◌≡◌, ℕ, zero, suc, Bool, cond, ◌&&◌, List, [], ◌∷◌, ◌++◌, length, take, drop, replicate, Some, None, Ok, Err, vec_items, codes, decimal, Option, Result, ◌==◌, nat_le, nat_lt}
 use Rattle.std.specs.List.{list_all}
+use Rattle.sealer.specs.Seal.{scratch_bytes}
 use Rattle.sealer.specs.Sealing.{Sealing}
 use Rattle.cards.specs.Faults.{Fault, and_then, refused_text, told}
 use Rattle.cards.specs.Reader.{Card, check, scratch_after, sheet_answer, sheet_buffer, cell_at, edition_at, Finds}
@@ -12,7 +13,8 @@ use Rattle.script.specs.Words.{with_read, with_next, ending}
 use Rattle.script.specs.declared.ReaderCall.{ReaderCall}
 use Rattle.script.specs.declared.ReaderCall.TheVariants as c
 use Rattle.script.specs.declared.Unread.{Unread}
-use Rattle.card_calls.specs.Suites.{suite_named, cipher_of}
+use Rattle.card_calls.specs.Suites.{suite_named}
+use Rattle.spoc_sealer.specs.Ciphers.{cipher_of}
 use Rattle.card_calls.specs.declared.reading.CheckRun.{CheckRun}
 use Rattle.card_calls.specs.declared.reading.SheetRun.{SheetRun}
 
@@ -28,11 +30,11 @@ refused_line f = refused_text f ++ (10 ∷ [])
 abbrev pub all_are : ℕ → List ℕ → Bool
 all_are v = list_all (λ b. b == v)
 
--- whether the first 4,096 bytes are zero, and the rest as a buffer is before a call
+-- whether the bytes that test and check ask for are zero, and the rest as a buffer is before a call
 unfoldable pub is_wiped : List ℕ → Bool
-is_wiped s = nat_le 16 (length s) && (all_are 0 (take 16 s) && all_are 0xA5 (drop 16 s))
+is_wiped s = nat_le scratch_bytes (length s) && (all_are 0 (take scratch_bytes s) && all_are 0xA5 (drop scratch_bytes s))
 
--- what is said of a scratch after check
+-- what is said of a scratch after test or check
 abbrev pub scratch_word : List ℕ → List ℕ
 scratch_word s = cond (is_wiped s) (codes "zero") (cond (all_are 0xA5 s) (codes "kept") (codes "other"))
 
@@ -88,7 +90,7 @@ read_buffer S (Err f) i b = b
 
 -- sheet i with a buffer of this length
 abbrev pub sheet_with : Sealing → List ℕ → ℕ → ℕ → List ℕ → Shown
-sheet_with S key i room bs = record { number = i; answer = read_answer S (check S key 16 bs) i (fresh room); buffer = read_buffer S (check S key 16 bs) i (fresh room) }
+sheet_with S key i room bs = record { number = i; answer = read_answer S (check S key scratch_bytes bs) i (fresh room); buffer = read_buffer S (check S key scratch_bytes bs) i (fresh room) }
 
 -- sheet I cell C edition E length L body BYTES: the body is at the front of the buffer
 abbrev pub head_line : ℕ → List ℕ → SheetHead → List ℕ
@@ -124,7 +126,7 @@ FoundAlone = (c : Card) (cell : ℕ) → Finds c cell (found_in c cell c.count) 
 
 -- find's answer, or check's where that refuses
 unfoldable pub find_with : Sealing → List ℕ → ℕ → List ℕ → Result (Option ℕ) Fault
-find_with S key cell bs = and_then (check S key 16 bs) (λ c. Ok (found_in c cell c.count))
+find_with S key cell bs = and_then (check S key scratch_bytes bs) (λ c. Ok (found_in c cell c.count))
 
 -- found I, none, or the refusal
 unfoldable pub find_text : Result (Option ℕ) Fault → List ℕ

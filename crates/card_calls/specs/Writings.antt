@@ -12,7 +12,8 @@ use Rattle.script.specs.Words.{with_read, with_next, ending}
 use Rattle.script.specs.declared.Unread.{Unread}
 use Rattle.script.specs.declared.Unread.TheVariants.{Memory}
 use Rattle.card_calls.specs.Readings.{refused_line}
-use Rattle.card_calls.specs.Suites.{suite_named, cipher_of}
+use Rattle.card_calls.specs.Suites.{suite_named}
+use Rattle.spoc_sealer.specs.Ciphers.{cipher_of}
 use Rattle.card_calls.specs.declared.writing.Draft as code
 use Rattle.card_calls.specs.declared.writing.Step.{Step}
 use Rattle.card_calls.specs.declared.writing.WriteRun.{WriteRun}

@@ -6,6 +6,6 @@ mod reading;
 mod suites;
 mod writing;
 
-pub use reading::{FILLER, call_reader};
+pub use reading::{FILLER, call_reader, scratch_word};
 pub use suites::read_suite;
 pub use writing::Draft;

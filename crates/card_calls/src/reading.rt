@@ -10,15 +10,11 @@ ghost use Rattle.card_calls.specs.Readings.{all_are, is_wiped, scratch_word, che
 use crate::front::front_of;
 use crate::suites::read_suite;
 use cards::CardFault;
-use permutations::Bench;
 use reader::{Card, SheetHead, check, find, sheet};
 use script::{Hex, ReaderCall, Unread, Words, read_bytes, read_cell, read_number};
-use sealer::Sealer;
-use spoc::{Spoc64, Spoc128, SuiteName};
-use spoc_sealer::Spoc;
-// How many bytes of scratch check asks for.
-const SCRATCH: usize = 16;
-
+use sealer::{SCRATCH_BYTES, Sealer};
+use spoc::SuiteName;
+use spoc_sealer::{BenchSealer, Spoc64Sealer, Spoc128Sealer};
 use std::alloc::{AllocError, Global};
 use std::fmt;
 
@@ -32,18 +28,19 @@ fn all_are(bytes: &[u8], value: u8) -> bool
     bytes.iter().all(|b| *b == value)
 }
 
-// Whether the bytes that check wipes are zero, and those beyond them as they were.
+// Whether the bytes that test and check wipe are zero, and those beyond them as they were.
 fn is_wiped(scratch: &[u8]) -> bool
     ensures { result ≡ is_wiped scratch.now }
 {
-    match scratch.split_at_checked(SCRATCH) {
+    match scratch.split_at_checked(SCRATCH_BYTES) {
         Some((front, rest)) => all_are(front, 0) & all_are(rest, FILLER),
         None => false,
     }
 }
 
-// What is said of a scratch after check.
-fn scratch_word(scratch: &[u8]) -> &'static str
+/// What is said of a scratch after test or check, which was filled with `FILLER` before the call: `zero` where it has
+/// `SCRATCH_BYTES` or more, these are zero and the rest is as it was; `kept` where all of it is; `other` else.
+pub fn scratch_word(scratch: &[u8]) -> &'static str
     ensures { result.now ≡ scratch_word scratch.now }
 {
     if is_wiped(scratch) {
@@ -170,7 +167,7 @@ impl<'a> Given<'a> {
     fn card<C: Sealer>(&self) -> Result<Card<'a>, CardFault>
         ensures { and_then (told result) (λ c. Ok (shown c)) ≡ check_of C.meaning self.now.key.now 16 self.now.bytes.now }
     {
-        let mut scratch = [0; SCRATCH];
+        let mut scratch = [0; SCRATCH_BYTES];
         let mut card = Card::empty();
         check::<C>(self.key, self.bytes, &mut scratch, &mut card)?;
         Ok(card)
@@ -314,8 +311,8 @@ pub fn call_reader(heap: Global, call: ReaderCall, mut words: Words) -> Result<S
     ensures found { FoundAlone }
 {
     match read_suite(words.next_word()?)? {
-        SuiteName::Spoc64 => call_over::<Spoc<24, Spoc64>>(heap, call, words),
-        SuiteName::Spoc128 => call_over::<Spoc<32, Spoc128>>(heap, call, words),
-        SuiteName::Bench => call_over::<Spoc<32, Bench>>(heap, call, words),
+        SuiteName::Spoc64 => call_over::<Spoc64Sealer>(heap, call, words),
+        SuiteName::Spoc128 => call_over::<Spoc128Sealer>(heap, call, words),
+        SuiteName::Bench => call_over::<BenchSealer>(heap, call, words),
     }
 }

@@ -11,11 +11,10 @@ ghost use Rattle.card_calls.specs.Writings.{step_call, draft_in, draft_of, appen
 use crate::front::front_of;
 use crate::suites::read_suite;
 use cards::CardFault;
-use permutations::Bench;
 use script::{Hex, Unread, Words, read_byte, read_bytes, read_cell, read_edition, read_number};
 use sealer::Sealer;
-use spoc::{Spoc64, Spoc128, SuiteName};
-use spoc_sealer::Spoc;
+use spoc::SuiteName;
+use spoc_sealer::{BenchSealer, Spoc64Sealer, Spoc128Sealer};
 use std::alloc::{AllocError, AllocFailed, Global};
 use std::fmt;
 use std::fmt::Write;
@@ -159,9 +158,9 @@ impl Draft {
         ensures { IfOk result (λ t. string_bytes t ≡ draft_text (draft_in self.now)) }
     {
         match self.suite {
-            SuiteName::Spoc64 => self.answer_over::<Spoc<24, Spoc64>>(heap),
-            SuiteName::Spoc128 => self.answer_over::<Spoc<32, Spoc128>>(heap),
-            SuiteName::Bench => self.answer_over::<Spoc<32, Bench>>(heap),
+            SuiteName::Spoc64 => self.answer_over::<Spoc64Sealer>(heap),
+            SuiteName::Spoc128 => self.answer_over::<Spoc128Sealer>(heap),
+            SuiteName::Bench => self.answer_over::<BenchSealer>(heap),
         }
     }
 }

@@ -6,9 +6,9 @@ ghost use Rattle.std.specs.Prelude.{◌<◌, ◌≤◌};
 #[cfg(test)]
 mod tests {
     use cards::CardFault;
-    use permutations::Bench;
     use reader::{Card, SheetHead, sheet};
-    use spoc::{Spoc64, Spoc128, Suite};
+    use sealer::Sealer;
+    use spoc_sealer::{BenchSealer, Spoc64Sealer, Spoc128Sealer};
     use std::process::Abort;
     use std::test::Fail;
     use writer::{Unclosed, Writer};
@@ -43,28 +43,28 @@ mod tests {
         }
     }
 
-    fn start_on<const B: usize, S: Suite<B> + Drop>(medium: &mut [u8]) -> Result<(), CardFault> {
-        let _ = Writer::<B, S>::start(KEY, NUMBER, medium)?;
+    fn start_on<C: Sealer + Drop>(medium: &mut [u8]) -> Result<(), CardFault> {
+        let _ = Writer::<C>::start(KEY, NUMBER, medium)?;
         Ok(())
     }
 
     // Appends a body of one byte to a new card.
-    fn append_on<const B: usize, S: Suite<B> + Drop>(
+    fn append_on<C: Sealer + Drop>(
         medium: &mut [u8],
     ) -> Result<usize, CardFault> {
-        let mut writer = Writer::<B, S>::start(KEY, NUMBER, medium)?;
+        let mut writer = Writer::<C>::start(KEY, NUMBER, medium)?;
         writer.append(medium, 7, 3, b"A")
     }
 
-    fn close<const B: usize, S: Suite<B> + Drop>(
-        writer: Writer<B, S>,
+    fn close<C: Sealer + Drop>(
+        writer: Writer<C>,
         medium: &mut [u8],
     ) -> Result<usize, CardFault> {
         Ok(writer.close(medium)?)
     }
 
     // The fewest bytes of a medium on which a card starts, and those on which it then takes a body of one byte.
-    fn shortest<const B: usize, S: Suite<B> + Drop>(
+    fn shortest<C: Sealer + Drop>(
         rt: &impl Abort,
         start: usize,
         append: usize,
@@ -73,34 +73,34 @@ mod tests {
     {
         refused(
             rt,
-            start_on::<B, S>(&mut [7; 64][..start - 1]),
+            start_on::<C>(&mut [7; 64][..start - 1]),
             (9, 3, 0, 0),
         )?;
-        assert_eq!(rt; start_on::<B, S>(&mut [7; 64][..start]), Ok(()));
+        assert_eq!(rt; start_on::<C>(&mut [7; 64][..start]), Ok(()));
         refused(
             rt,
-            append_on::<B, S>(&mut [7; 64][..append - 1]),
+            append_on::<C>(&mut [7; 64][..append - 1]),
             (9, 2, 0, 13),
         )?;
-        assert_eq!(rt; append_on::<B, S>(&mut [7; 64][..append]), Ok(0));
+        assert_eq!(rt; append_on::<C>(&mut [7; 64][..append]), Ok(0));
         Ok(())
     }
 
     #[test]
     fn shortest_media(rt: HostRuntime) -> Result<(), Fail> {
-        shortest::<24, Spoc64>(&rt, 30, 48)?;
-        shortest::<32, Spoc128>(&rt, 38, 64)?;
-        shortest::<32, Bench>(&rt, 30, 48)
+        shortest::<Spoc64Sealer>(&rt, 30, 48)?;
+        shortest::<Spoc128Sealer>(&rt, 38, 64)?;
+        shortest::<BenchSealer>(&rt, 30, 48)
     }
 
     #[test]
     fn bytes_beyond_a_call_stay(rt: HostRuntime) -> Result<(), Fail> {
         let card: &[u8] = BARE;
         let mut short = [7; 29];
-        refused(&rt, start_on::<32, Bench>(&mut short), (9, 3, 0, 0))?;
+        refused(&rt, start_on::<BenchSealer>(&mut short), (9, 3, 0, 0))?;
         assert_eq!(rt; short, [7; 29]);
         let mut medium = [7; 64];
-        assert_eq!(rt; append_on::<32, Bench>(&mut medium), Ok(0));
+        assert_eq!(rt; append_on::<BenchSealer>(&mut medium), Ok(0));
         assert_eq!(rt; &medium[0..13], &card[0..13]);
         assert_eq!(rt; &medium[31..64], [7; 33].as_slice());
         let mut medium = [7; 33];
@@ -114,7 +114,7 @@ mod tests {
     fn longest_body_and_the_order_of_questions(rt: HostRuntime) -> Result<(), Fail> {
         let body = [5; 4097];
         let mut medium = [7; 8300];
-        let mut writer = Writer::<32, Bench>::start(KEY, NUMBER, &mut medium)?;
+        let mut writer = Writer::<BenchSealer>::start(KEY, NUMBER, &mut medium)?;
         assert_eq!(rt; writer.append(&mut medium, 7, 3, &body[0..4096]), Ok(0));
         refused(
             &rt,
@@ -129,7 +129,7 @@ mod tests {
     }
 
     // Appends as many empty sheets as a card may have; each answers its number.
-    fn append_most(rt: &impl Abort, writer: &mut Writer<32, Bench>, medium: &mut [u8]) {
+    fn append_most(rt: &impl Abort, writer: &mut Writer<BenchSealer>, medium: &mut [u8]) {
         for i in 0..512 {
             assert_eq!(rt; writer.append(medium, 0, 0, &[]), Ok(i));
         }
@@ -138,7 +138,7 @@ mod tests {
     #[test]
     fn most_sheets(rt: HostRuntime) -> Result<(), Fail> {
         let mut medium = [7; 8800];
-        let mut writer = Writer::<32, Bench>::start(KEY, NUMBER, &mut medium)?;
+        let mut writer = Writer::<BenchSealer>::start(KEY, NUMBER, &mut medium)?;
         append_most(&rt, &mut writer, &mut medium);
         refused(
             &rt,
@@ -158,7 +158,7 @@ mod tests {
     #[test]
     fn a_refused_close_gives_the_writer_back(rt: HostRuntime) -> Result<(), Fail> {
         let mut medium = [7; 50];
-        let mut writer = Writer::<32, Bench>::start(KEY, NUMBER, &mut medium)?;
+        let mut writer = Writer::<BenchSealer>::start(KEY, NUMBER, &mut medium)?;
         assert_eq!(rt; writer.append(&mut medium, 7, 3, b"\x41\x42"), Ok(0));
         let mut short = [7; 48];
         let Err(unclosed) = writer.close(&mut short) else {
@@ -176,7 +176,7 @@ mod tests {
     // Checks a bench card, and answers how many sheets it has.
     fn check_of(bytes: &[u8]) -> Result<usize, CardFault> {
         let mut card = Card::empty();
-        reader::check::<32, Bench>(KEY, bytes, &mut [7; 4096], &mut card)?;
+        reader::check::<BenchSealer>(KEY, bytes, &mut [7; 16], &mut card)?;
         Ok(card.count())
     }
 
@@ -203,22 +203,22 @@ mod tests {
     #[test]
     fn scratch(rt: HostRuntime) -> Result<(), Fail> {
         let mut card = Card::empty();
-        let mut short = [7; 4095];
+        let mut short = [7; 15];
         refused(
             &rt,
-            reader::check::<32, Bench>(&[1; 15], BARE, &mut short, &mut card),
+            reader::check::<BenchSealer>(&[1; 15], BARE, &mut short, &mut card),
             (1, 1, 0, 0),
         )?;
         refused(
             &rt,
-            reader::check::<32, Bench>(KEY, BARE, &mut short, &mut card),
+            reader::check::<BenchSealer>(KEY, BARE, &mut short, &mut card),
             (4, 1, 0, 0),
         )?;
-        assert_eq!(rt; short, [7; 4095]);
-        let mut long = [7; 4099];
-        reader::check::<32, Bench>(KEY, ONE, &mut long, &mut card)?;
-        assert_eq!(rt; &long[0..4096], [0; 4096].as_slice());
-        assert_eq!(rt; &long[4096..4099], [7; 3].as_slice());
+        assert_eq!(rt; short, [7; 15]);
+        let mut long = [7; 19];
+        reader::check::<BenchSealer>(KEY, ONE, &mut long, &mut card)?;
+        assert_eq!(rt; &long[0..16], [0; 16].as_slice());
+        assert_eq!(rt; &long[16..19], [7; 3].as_slice());
         Ok(())
     }
 
@@ -226,18 +226,18 @@ mod tests {
     fn the_order_of_questions_of_sheet(rt: HostRuntime) -> Result<(), Fail> {
         let mut card = Card::empty();
         let mut short = [7; 1];
-        refused(&rt, sheet::<32, Bench>(&card, 0, &mut short), (12, 3, 0, 0))?;
-        reader::check::<32, Bench>(KEY, ONE, &mut [7; 4096], &mut card)?;
+        refused(&rt, sheet::<BenchSealer>(&card, 0, &mut short), (12, 3, 0, 0))?;
+        reader::check::<BenchSealer>(KEY, ONE, &mut [7; 16], &mut card)?;
         refused(
             &rt,
-            sheet::<24, Spoc64>(&card, 9, &mut short),
+            sheet::<Spoc64Sealer>(&card, 9, &mut short),
             (12, 3, 9, 0),
         )?;
-        refused(&rt, sheet::<32, Bench>(&card, 1, &mut short), (16, 3, 1, 0))?;
-        refused(&rt, sheet::<32, Bench>(&card, 0, &mut short), (4, 1, 0, 22))?;
+        refused(&rt, sheet::<BenchSealer>(&card, 1, &mut short), (16, 3, 1, 0))?;
+        refused(&rt, sheet::<BenchSealer>(&card, 0, &mut short), (4, 1, 0, 22))?;
         assert_eq!(rt; short, [7; 1]);
         let mut buffer = [7; 4];
-        let head = sheet::<32, Bench>(&card, 0, &mut buffer)?;
+        let head = sheet::<BenchSealer>(&card, 0, &mut buffer)?;
         assert_eq!(rt;
             head,
             SheetHead {

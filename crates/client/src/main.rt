@@ -1,17 +1,18 @@
-// A client: writes a card, checks it, finds a cell and reads its sheet.
+// A client: under each sealer it writes a card, checks it, finds a cell and reads its sheet.
 #![tactic(auto)]
 
 use anyhow::Context;
 use cards::CardFault;
-use permutations::Bench;
+use other_sealer::FirstByte;
 use reader::{Card, check, find, sheet};
-use spoc::Suite;
+use sealer::{SCRATCH_BYTES, Sealer};
+use spoc_sealer::{BenchSealer, Spoc64Sealer, Spoc128Sealer};
 use writer::Writer;
 
 const KEY: [u8; 16] = [1; 16];
 
-fn write(medium: &mut [u8]) -> anyhow::Result<usize> {
-    let mut writer = Writer::<32, Bench>::start(&KEY, 4, medium).context("start")?;
+fn write<C: Sealer + Drop>(medium: &mut [u8]) -> anyhow::Result<usize> {
+    let mut writer = Writer::<C>::start(&KEY, 4, medium).context("start")?;
     writer.append(medium, 7, 1, b"shoal").context("append")?;
     writer.append(medium, 7, 2, b"deep").context("append")?;
     let length = writer
@@ -21,22 +22,29 @@ fn write(medium: &mut [u8]) -> anyhow::Result<usize> {
     Ok(length)
 }
 
-fn read(rt: &HostRuntime, bytes: &[u8]) -> anyhow::Result<()> {
-    let mut scratch = [0; 4096];
+fn read<C: Sealer>(rt: &HostRuntime, name: &str, bytes: &[u8]) -> anyhow::Result<()> {
+    let mut scratch = [0; SCRATCH_BYTES];
     let mut card = Card::empty();
-    check::<32, Bench>(&KEY, bytes, &mut scratch, &mut card).context("check")?;
+    check::<C>(&KEY, bytes, &mut scratch, &mut card).context("check")?;
     let i = find(&card, 7).context("find")?;
     let mut buffer = [0; 16];
-    let head = sheet::<32, Bench>(&card, i, &mut buffer).context("sheet")?;
+    let head = sheet::<C>(&card, i, &mut buffer).context("sheet")?;
     let edition = head.edition;
     let length = head.length;
-    println!(rt; "cell 7 is sheet {i}, edition {edition}, {length} bytes")?;
+    println!(rt; "{name}: cell 7 is sheet {i}, edition {edition}, {length} bytes")?;
     Ok(())
 }
 
-fn main(rt: HostRuntime) -> anyhow::Result<()> {
+fn write_and_read<C: Sealer + Drop>(rt: &HostRuntime, name: &str) -> anyhow::Result<()> {
     let mut medium = [0; 256];
-    let length = write(&mut medium)?;
+    let length = write::<C>(&mut medium)?;
     let bytes = medium.get(0..length).context("length")?;
-    read(&rt, bytes)
+    read::<C>(rt, name, bytes)
+}
+
+fn main(rt: HostRuntime) -> anyhow::Result<()> {
+    write_and_read::<Spoc64Sealer>(&rt, "SpoC-64")?;
+    write_and_read::<Spoc128Sealer>(&rt, "SpoC-128")?;
+    write_and_read::<BenchSealer>(&rt, "bench")?;
+    write_and_read::<FirstByte>(&rt, "another's")
 }

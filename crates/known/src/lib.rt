@@ -6,8 +6,7 @@ ghost use Rattle.cards.specs.Faults.{told};
 ghost use Rattle.known.specs.Known.{bare_answer, bare_medium, KnownBytes};
 
 use cards::CardFault;
-use permutations::Bench;
-use spoc_sealer::Spoc;
+use spoc_sealer::BenchSealer;
 use writer::Writer;
 
 const KEY: [u8; 16] = [1, 1, 1, 1, 1, 1, 1, 1, 2, 2, 2, 2, 2, 2, 2, 2];
@@ -22,6 +21,6 @@ pub fn bench_card(medium: &mut [u8]) -> Result<usize, CardFault>
     ensures medium { medium.new ≡ bare_medium medium.old }
     ensures known { KnownBytes }
 {
-    let writer = Writer::<Spoc<32, Bench>>::start(&KEY, NUMBER, medium)?;
+    let writer = Writer::<BenchSealer>::start(&KEY, NUMBER, medium)?;
     Ok(writer.close(medium)?)
 }

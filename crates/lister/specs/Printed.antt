@@ -2,17 +2,11 @@
 use Rattle.std.specs.Prelude.{◌≡◌, ℕ, suc, ◌+◌, ◌*◌, ◌<◌, cond, List, [], ◌∷◌, ◌++◌, length, take, drop, Ok, Err, string_bytes, codes, decimal, Result, String, nat_le, slice_index, slice_index_or}
 use Rattle.std.specs.declared.alloc.Global.{Global}
 use Rattle.std.specs.Str.{bytes_eq}
-use Rattle.permutations.specs.Bench.{bench}
-use Rattle.permutations.specs.Light.{light_192, light_256}
-use Rattle.spoc.specs.Bench.{bench_plan}
 use Rattle.spoc.specs.Name.{suite_of}
 use Rattle.sealer.specs.Sealing.{Sealing}
-use Rattle.spoc.specs.Sealing.{spoc}
-use Rattle.spoc.specs.Spoc64.{spoc_64}
-use Rattle.spoc.specs.Spoc128.{spoc_128}
+use Rattle.spoc_sealer.specs.Ciphers.{cipher_of}
 use Rattle.spoc.specs.declared.NoSuchVersion.{NoSuchVersion}
 use Rattle.spoc.specs.declared.SuiteName.{SuiteName}
-use Rattle.spoc.specs.declared.SuiteName.TheVariants.{Spoc64, Spoc128, Bench}
 use Rattle.cards.specs.Faults.{Fault, fault, and_then, of_card, refused_text}
 use Rattle.cards.specs.Format.{Sheet, mark}
 use Rattle.cards.specs.Reader.{Card, check_bytes, sheet_answer, version_of}
@@ -54,9 +48,7 @@ header_asked bs =
 
 -- a card under the suite of a version, if there is one
 abbrev pub under : Result SuiteName NoSuchVersion → List ℕ → ℕ → List ℕ → Result (List ℕ) Fault
-under (Ok Spoc64) = listed (spoc light_192 spoc_64)
-under (Ok Spoc128) = listed (spoc light_256 spoc_128)
-under (Ok Bench) = listed (spoc bench bench_plan)
+under (Ok s) = listed (cipher_of s)
 under (Err e) = λ key number bs. Err (fault 12 3 0 3)
 
 -- the version picks the suite

@@ -8,11 +8,10 @@ ghost use Rattle.lister.specs.declared.listing.Unlisted.TheVariants.{Refused, Me
 ghost use Rattle.lister.specs.Printed.{card_line, sheet_line, sheet_lines, listed, header_asked, card_listed, input_listed, listing_text, Says, Holds};
 
 use cards::{CardFault, CardNo, HEADER_BYTES, MARK, MOST_BODY};
-use permutations::Bench;
 use reader::{Card, SheetHead, check, sheet};
-use sealer::{SealFault, Sealer};
-use spoc::{NoSuchVersion, Spoc64, Spoc128, SuiteName};
-use spoc_sealer::Spoc;
+use sealer::{SCRATCH_BYTES, SealFault, Sealer};
+use spoc::{NoSuchVersion, SuiteName};
+use spoc_sealer::{BenchSealer, Spoc64Sealer, Spoc128Sealer};
 use std::alloc::{AllocError, Global};
 use std::fmt;
 use std::fmt::Write;
@@ -135,7 +134,7 @@ fn list_sheets<C: Sealer>(card: &Card<'_>, mut text: String) -> Result<String, U
     Ok(text)
 }
 
-// What is printed of a card under a suite.
+// What is printed of a card under a sealer.
 fn list_under<C: Sealer>(
     heap: Global,
     key: &[u8; 16],
@@ -144,7 +143,7 @@ fn list_under<C: Sealer>(
 ) -> Result<String, Unlisted>
     ensures { Says result (listed C.meaning key.now number bytes.now) }
 {
-    let mut scratch = [0; 16];
+    let mut scratch = [0; SCRATCH_BYTES];
     let mut card = Card::empty();
     check::<C>(key, bytes, &mut scratch, &mut card)?;
     let line = CardLine {
@@ -161,9 +160,9 @@ fn list_card(heap: Global, key: &[u8; 16], bytes: &[u8]) -> Result<String, Unlis
 {
     let Header { version, number } = Header::try_from(bytes)?;
     match SuiteName::try_from(u64::from(version))? {
-        SuiteName::Spoc64 => list_under::<Spoc<24, Spoc64>>(heap, key, number, bytes),
-        SuiteName::Spoc128 => list_under::<Spoc<32, Spoc128>>(heap, key, number, bytes),
-        SuiteName::Bench => list_under::<Spoc<32, Bench>>(heap, key, number, bytes),
+        SuiteName::Spoc64 => list_under::<Spoc64Sealer>(heap, key, number, bytes),
+        SuiteName::Spoc128 => list_under::<Spoc128Sealer>(heap, key, number, bytes),
+        SuiteName::Bench => list_under::<BenchSealer>(heap, key, number, bytes),
     }
 }
 

@@ -1,7 +1,7 @@
 use crate::listing::{MOST_INPUT, list};
 use cards::CardFault;
-use permutations::Bench;
-use spoc::{Spoc64, Spoc128, Suite};
+use sealer::Sealer;
+use spoc_sealer::{BenchSealer, Spoc64Sealer, Spoc128Sealer};
 use std::alloc::Global;
 use std::process::Abort;
 use std::test::Fail;
@@ -96,11 +96,11 @@ fn records(rt: HostRuntime) -> Result<(), Fail> {
 }
 
 // A card of these sheets, and how long it is: cell, edition and body of each.
-fn write_card<const B: usize, S: Suite<B> + Drop>(
+fn write_card<C: Sealer + Drop>(
     medium: &mut [u8],
     sheets: &[(u32, u16, &[u8])],
 ) -> Result<usize, CardFault> {
-    let mut writer = Writer::<B, S>::start(KEY, 7, medium)?;
+    let mut writer = Writer::<C>::start(KEY, 7, medium)?;
     for (cell, edition, body) in sheets {
         writer.append(medium, *cell, *edition, body)?;
     }
@@ -108,14 +108,14 @@ fn write_card<const B: usize, S: Suite<B> + Drop>(
 }
 
 // A card of two sheets is listed so.
-fn expect_two<const B: usize, S: Suite<B> + Drop>(
+fn expect_two<C: Sealer + Drop>(
     rt: &impl Abort,
     heap: Global,
     medium: &mut [u8; 100],
     text: &str,
 ) -> Result<(), Fail> {
     let sheets: [(u32, u16, &[u8]); 2] = [(3, 1, b"abc"), (u32::MAX, u16::MAX, &[])];
-    let length = write_card::<B, S>(medium, &sheets)?;
+    let length = write_card::<C>(medium, &sheets)?;
     assert!(rt; length <= 100);
     expect(rt, heap, &medium[0..length], text)
 }
@@ -124,19 +124,19 @@ fn expect_two<const B: usize, S: Suite<B> + Drop>(
 fn two_sheets(rt: HostRuntime) -> Result<(), Fail> {
     let heap = rt.alloc();
     let mut medium = [0; 100];
-    expect_two::<24, Spoc64>(
+    expect_two::<Spoc64Sealer>(
         &rt,
         heap,
         &mut medium,
         "card 7 version 1 sheets 2\nsheet 0 cell 3 edition 1 length 3\nsheet 1 cell 4294967295 edition 65535 length 0\n",
     )?;
-    expect_two::<32, Spoc128>(
+    expect_two::<Spoc128Sealer>(
         &rt,
         heap,
         &mut medium,
         "card 7 version 2 sheets 2\nsheet 0 cell 3 edition 1 length 3\nsheet 1 cell 4294967295 edition 65535 length 0\n",
     )?;
-    expect_two::<32, Bench>(
+    expect_two::<BenchSealer>(
         &rt,
         heap,
         &mut medium,
@@ -149,7 +149,7 @@ fn one_sheet_too_many(rt: HostRuntime) -> Result<(), Fail> {
     let heap = rt.alloc();
     let mut medium = [0; 8734];
     let empty: (u32, u16, &[u8]) = (0, 0, &[]);
-    assert_eq!(rt; write_card::<32, Bench>(&mut medium, &[empty; 512])?, 8734);
+    assert_eq!(rt; write_card::<BenchSealer>(&mut medium, &[empty; 512])?, 8734);
     let listed = list(heap, input_of(heap, &medium)?.as_slice())?;
     assert!(rt;
         listed.as_str().starts_with(

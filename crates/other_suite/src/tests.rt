@@ -1,11 +1,15 @@
 use crate::ring::Ring;
 use cards::CardFault;
-use permutations::{Bench, there_and_back};
+use permutations::there_and_back;
 use reader::{Card, SheetHead, find, sheet};
-use spoc::{SealFault, Suite};
+use sealer::{SealFault, Sealer};
+use spoc_sealer::{BenchSealer, Spoc};
 use std::process::Abort;
 use std::test::Fail;
 use writer::{Call, Writer, replay};
+
+// The ring suite as a sealer of cards.
+type RingSealer = Spoc<23, Ring>;
 
 // What is sealed and written here, byte by byte, was made by the second implementation; reference/self_check.py makes it again.
 const KEY: &[u8; 16] = b"\x01\x01\x01\x01\x01\x01\x01\x01\x02\x02\x02\x02\x02\x02\x02\x02";
@@ -139,7 +143,7 @@ fn sheets() -> [(u32, u16, &'static [u8]); 3] {
 
 // Writes the card, and answers its length.
 fn write(rt: &impl Abort, medium: &mut [u8]) -> Result<usize, CardFault> {
-    let mut writer = Writer::<23, Ring>::start(KEY, NUMBER, medium)?;
+    let mut writer = Writer::<RingSealer>::start(KEY, NUMBER, medium)?;
     for (i, (cell, edition, body)) in sheets().iter().enumerate() {
         assert_eq!(rt; writer.append(medium, *cell, *edition, body), Ok(i));
     }
@@ -159,11 +163,11 @@ fn appended_sheets_read_back(rt: HostRuntime) -> Result<(), Fail> {
     let mut medium = [7; 80];
     write(&rt, &mut medium)?;
     let mut card = Card::empty();
-    reader::check::<23, Ring>(KEY, &medium, &mut [7; 4096], &mut card)?;
+    reader::check::<RingSealer>(KEY, &medium, &mut [7; 16], &mut card)?;
     assert_eq!(rt; card.count(), 3);
     for (i, (cell, edition, body)) in sheets().iter().enumerate() {
         let mut buffer = [7; 16];
-        let head = sheet::<23, Ring>(&card, i, &mut buffer)?;
+        let head = sheet::<RingSealer>(&card, i, &mut buffer)?;
         assert_eq!(rt;
             head,
             SheetHead {
@@ -208,7 +212,7 @@ fn calls_are_replayed(rt: HostRuntime) -> Result<(), Fail> {
         Call::Close,
     ];
     let mut answers = [Ok(0); 5];
-    let writer = Writer::<23, Ring>::start(KEY, NUMBER, &mut medium)?;
+    let writer = Writer::<RingSealer>::start(KEY, NUMBER, &mut medium)?;
     assert_eq!(rt; replay(writer, &mut medium, &calls, &mut answers), 5);
     assert_eq!(rt;
         answers.map(said),
@@ -216,16 +220,16 @@ fn calls_are_replayed(rt: HostRuntime) -> Result<(), Fail> {
     );
     assert_eq!(rt; medium, *CARD);
     let mut few = [Ok(0); 2];
-    let writer = Writer::<23, Ring>::start(KEY, NUMBER, &mut medium)?;
+    let writer = Writer::<RingSealer>::start(KEY, NUMBER, &mut medium)?;
     assert_eq!(rt; replay(writer, &mut medium, &calls, &mut few), 2);
     assert_eq!(rt; few.map(said), [Ok(0), Err((7, 2, 1, 32))]);
     Ok(())
 }
 
 // How many sheets check finds under a suite.
-fn check_of<const B: usize, S: Suite<B>>(key: &[u8], bytes: &[u8]) -> Result<usize, Fault> {
+fn check_of<C: Sealer>(key: &[u8], bytes: &[u8]) -> Result<usize, Fault> {
     let mut card = Card::empty();
-    let answer = reader::check::<B, S>(key, bytes, &mut [7; 4096], &mut card);
+    let answer = reader::check::<C>(key, bytes, &mut [7; 16], &mut card);
     said(answer.map(|()| card.count()))
 }
 
@@ -254,16 +258,16 @@ fn fault_at(place: usize) -> Fault {
 
 #[test]
 fn a_changed_byte_does_not_check(rt: HostRuntime) {
-    assert_eq!(rt; check_of::<23, Ring>(KEY, CARD), Ok(3));
+    assert_eq!(rt; check_of::<RingSealer>(KEY, CARD), Ok(3));
     for (i, byte) in CARD.iter().enumerate() {
         let mut changed = *CARD;
         changed[i] = *byte ^ 1;
-        assert_eq!(rt; check_of::<23, Ring>(KEY, &changed), Err(fault_at(i)));
+        assert_eq!(rt; check_of::<RingSealer>(KEY, &changed), Err(fault_at(i)));
     }
 }
 
 #[test]
 fn a_card_of_another_key_or_suite_does_not_check(rt: HostRuntime) {
-    assert_eq!(rt; check_of::<23, Ring>(&[1; 16], CARD), Err((6, 1, 0, 27)));
-    assert_eq!(rt; check_of::<32, Bench>(KEY, CARD), Err((12, 3, 0, 3)));
+    assert_eq!(rt; check_of::<RingSealer>(&[1; 16], CARD), Err((6, 1, 0, 27)));
+    assert_eq!(rt; check_of::<BenchSealer>(KEY, CARD), Err((12, 3, 0, 3)));
 }

@@ -3,7 +3,7 @@ use Rattle.std.specs.Prelude.{ℕ, cond, List, Ok, Err, codes, Result}
 use Rattle.std.specs.Str.{bytes_eq}
 use Rattle.script.specs.declared.names.CallName.{CallName}
 use Rattle.script.specs.declared.names.CallName.TheVariants.{Permutation, Cipher, Reader, Write, Writer}
-use Rattle.script.specs.declared.names.CipherCall.TheVariants.{Seal, Open, SealInto, OpenInto}
+use Rattle.script.specs.declared.names.CipherCall.TheVariants.{Seal, Open, SealInto, OpenInto, Test}
 use Rattle.script.specs.declared.names.PermutationCall.TheVariants.{Forward, Back, Trace}
 use Rattle.script.specs.declared.names.ReaderCall.TheVariants.{Check, Sheet, Find}
 use Rattle.script.specs.declared.names.WriterCall.TheVariants.{Append, Close, End}
@@ -22,13 +22,14 @@ call_named w =
     (cond (bytes_eq w (codes "open")) (Ok (Cipher Open))
     (cond (bytes_eq w (codes "seal-into")) (Ok (Cipher SealInto))
     (cond (bytes_eq w (codes "open-into")) (Ok (Cipher OpenInto))
+    (cond (bytes_eq w (codes "test")) (Ok (Cipher Test))
     (cond (bytes_eq w (codes "check")) (Ok (Reader Check))
     (cond (bytes_eq w (codes "sheet")) (Ok (Reader Sheet))
     (cond (bytes_eq w (codes "find")) (Ok (Reader Find))
     (cond (bytes_eq w (codes "write")) (Ok Write)
     (cond (bytes_eq w (codes "append")) (Ok (Writer Append))
     (cond (bytes_eq w (codes "close")) (Ok (Writer Close))
-    (cond (bytes_eq w (codes "end")) (Ok (Writer End)) (Err UnknownCall))))))))))))))
+    (cond (bytes_eq w (codes "end")) (Ok (Writer End)) (Err UnknownCall)))))))))))))))
 
 -- the word that names a permutation
 abbrev pub name_text : PermutationName → List ℕ

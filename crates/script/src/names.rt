@@ -19,6 +19,7 @@ pub enum CipherCall {
     Open,
     SealInto,
     OpenInto,
+    Test,
 }
 
 // A call of the reader.
@@ -62,6 +63,7 @@ impl TryFrom<&[u8]> for CallName {
             b"open" => Ok(CallName::Cipher(CipherCall::Open)),
             b"seal-into" => Ok(CallName::Cipher(CipherCall::SealInto)),
             b"open-into" => Ok(CallName::Cipher(CipherCall::OpenInto)),
+            b"test" => Ok(CallName::Cipher(CipherCall::Test)),
             b"check" => Ok(CallName::Reader(ReaderCall::Check)),
             b"sheet" => Ok(CallName::Reader(ReaderCall::Sheet)),
             b"find" => Ok(CallName::Reader(ReaderCall::Find)),

@@ -3,17 +3,17 @@ use anyhow::{Context, ensure};
 use cards::{
     CardFault, HEAD_BYTES, HEADER_BYTES, MOST_BODY, MOST_SHEETS, record_data, record_nonce,
 };
-use permutations::Bench;
 use reader::{Card, check};
-use spoc::{Spoc64, Spoc128, Suite, open};
+use sealer::{SCRATCH_BYTES, Sealer};
+use spoc_sealer::{BenchSealer, Spoc64Sealer, Spoc128Sealer};
 use writer::Writer;
 
 const KEY: [u8; 16] = [7; 16];
 
 // Writes a card of as many sheets as there may be, each as long as it may be.
-fn write_full<const B: usize, S: Suite<B> + Drop>(medium: &mut [u8]) -> anyhow::Result<()> {
+fn write_full<C: Sealer + Drop>(medium: &mut [u8]) -> anyhow::Result<()> {
     let body = [5; MOST_BODY];
-    let mut writer = Writer::<B, S>::start(&KEY, 4, medium).context("start was refused")?;
+    let mut writer = Writer::<C>::start(&KEY, 4, medium).context("start was refused")?;
     // Each sheet has its number as its cell.
     for cell in 0..MOST_SHEETS {
         writer
@@ -28,15 +28,15 @@ fn write_full<const B: usize, S: Suite<B> + Drop>(medium: &mut [u8]) -> anyhow::
 }
 
 // Checks a full card.
-fn check_card<const B: usize, S: Suite<B>>(bytes: &[u8], scratch: &mut [u8]) -> anyhow::Result<()> {
+fn check_card<C: Sealer>(bytes: &[u8], scratch: &mut [u8]) -> anyhow::Result<()> {
     let mut card = Card::empty();
-    check::<B, S>(&KEY, bytes, scratch, &mut card).context("the card was refused")?;
+    check::<C>(&KEY, bytes, scratch, &mut card).context("the card was refused")?;
     ensure!(card.count() == MOST_SHEETS, "the card was refused");
     Ok(())
 }
 
 // Opens a record whose body is as long as it may be.
-fn open_record<const B: usize, S: Suite<B>>(
+fn open_record<C: Sealer>(
     header: &[u8; 13],
     n: usize,
     record: &[u8],
@@ -47,33 +47,34 @@ fn open_record<const B: usize, S: Suite<B>>(
     let nonce = record_nonce(header, n as u64);
     let data = record_data(header, head);
     // As a card's fault, which prints: the cipher's own is no Error.
-    open::<B, S>(&KEY, &nonce, &data, body, out, tag).map_err(CardFault::of_cipher)?;
+    C::open(&KEY, &nonce, &data, body, out, tag).map_err(CardFault::of_cipher)?;
     Ok(())
 }
 
 // Opens the bodies of a full card one after the other.
-fn open_bodies<const B: usize, S: Suite<B>>(bytes: &[u8], out: &mut [u8]) -> anyhow::Result<()> {
+fn open_bodies<C: Sealer>(bytes: &[u8], out: &mut [u8]) -> anyhow::Result<()> {
     let (header, records) = bytes
         .split_first_chunk::<HEADER_BYTES>()
         .context("a header cut")?;
-    let size = HEAD_BYTES + MOST_BODY + S::RATE;
+    let size = HEAD_BYTES + MOST_BODY + C::WIDTH;
     for (n, record) in records.chunks(size).take(MOST_SHEETS).enumerate() {
-        open_record::<B, S>(header, n, record, out)?;
+        open_record::<C>(header, n, record, out)?;
     }
     Ok(())
 }
 
 // Times check of a full card, and opening all its bodies.
-fn time<const B: usize, S: Suite<B> + Drop>(rt: &HostRuntime, name: &str) -> anyhow::Result<()> {
-    let rate = S::RATE;
-    let length = HEADER_BYTES + MOST_SHEETS * (HEAD_BYTES + MOST_BODY + rate) + HEAD_BYTES + rate;
+fn time<C: Sealer + Drop>(rt: &HostRuntime, name: &str) -> anyhow::Result<()> {
+    let width = C::WIDTH;
+    let length = HEADER_BYTES + MOST_SHEETS * (HEAD_BYTES + MOST_BODY + width) + HEAD_BYTES + width;
     let mut medium = vec![in rt.alloc(); 0; length]?;
-    write_full::<B, S>(medium.as_mut_slice())?;
+    write_full::<C>(medium.as_mut_slice())?;
     let bytes = medium.as_slice();
-    let mut scratch = [0; MOST_BODY];
-    let check = least_time(rt, 1, || check_card::<B, S>(bytes, &mut scratch))?.as_micros();
+    let mut scratch = [0; SCRATCH_BYTES];
+    let mut body = [0; MOST_BODY];
+    let check = least_time(rt, 1, || check_card::<C>(bytes, &mut scratch))?.as_micros();
     let open = least_time(rt, 1, || {
-        open_bodies::<B, S>(bytes, &mut scratch).context("the card was refused")
+        open_bodies::<C>(bytes, &mut body).context("the card was refused")
     })?
     .as_micros();
     let percent = check.saturating_mul(100) / open.max(1);
@@ -84,8 +85,8 @@ fn time<const B: usize, S: Suite<B> + Drop>(rt: &HostRuntime, name: &str) -> any
 }
 
 pub fn suites(rt: &HostRuntime) -> anyhow::Result<()> {
-    time::<24, Spoc64>(rt, "SpoC-64")?;
-    time::<32, Spoc128>(rt, "SpoC-128")?;
-    time::<32, Bench>(rt, "bench")?;
+    time::<Spoc64Sealer>(rt, "SpoC-64")?;
+    time::<Spoc128Sealer>(rt, "SpoC-128")?;
+    time::<BenchSealer>(rt, "bench")?;
     Ok(())
 }

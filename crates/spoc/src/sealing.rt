@@ -71,7 +71,16 @@ pub fn test<const B: usize, S: Suite<B>>(
     ensures scratch { scratch.new ≡ (tested S.Bijection.meaning S.SuiteModel.plan key.now nonce.now «data».now ciphertext.now scratch.old tag.now).out }
     ensures as_open { AnswersAsOpen (spoc S.Bijection.meaning S.SuiteModel.plan) key.now nonce.now «data».now ciphertext.now scratch.old tag.now result }
 {
-    let (key, nonce) = ask_lengths(key, nonce, data, ciphertext, SCRATCH_BYTES, scratch, tag, S::RATE)?;
+    let (key, nonce) = ask_lengths(
+        key,
+        nonce,
+        data,
+        ciphertext,
+        SCRATCH_BYTES,
+        scratch,
+        tag,
+        S::RATE,
+    )?;
     let mut duplex = Duplex::<B, S>::at_message(key, nonce, data, ciphertext);
     let block = scratch.first_chunk_mut::<SCRATCH_BYTES>().unwrap();
     duplex.open_over(ciphertext, block);

@@ -5,11 +5,7 @@ use Rattle.permutations.specs.Bench.{bench, bench_walk}
 use Rattle.permutations.specs.Light.{light_192, light_256, walk_192, walk_256}
 use Rattle.permutations.specs.Permutation.{Perm, Walk, stepped}
 use Rattle.script.specs.Hex.{bytes_of, hex_text}
-use Rattle.spoc.specs.Bench.{bench_plan}
-use Rattle.spoc.specs.Spoc128.{spoc_128}
-use Rattle.spoc.specs.Spoc64.{spoc_64}
-use Rattle.spoc.specs.declared.SuiteName.{SuiteName}
-use Rattle.spoc.specs.declared.SuiteName.TheVariants.{Spoc64, Spoc128, Bench as SuiteBench}
+use Rattle.spoc_sealer.specs.Ciphers.{cipher_of}
 use Rattle.script.specs.Lines.{silent, trimmed}
 use Rattle.script.specs.Names.{call_named, permutation_named}
 use Rattle.script.specs.Reasons.{reason}
@@ -66,15 +62,9 @@ permutation_asked call ws =
     with_next bytes_of ws (λ s ws.
     with_read (ending ws) (λ _. named_answer of call s)))
 
--- a call of the cipher over a suite
-abbrev pub suite_asked : SuiteName → CipherCall → List (List ℕ) → Result (List ℕ) Unread
-suite_asked Spoc64 = cipher_asked light_192 spoc_64
-suite_asked Spoc128 = cipher_asked light_256 spoc_128
-suite_asked SuiteBench = cipher_asked bench bench_plan
-
 -- a call of the cipher reads a version first
 abbrev pub version_asked : CipherCall → List (List ℕ) → Result (List ℕ) Unread
-version_asked call ws = with_next suite_named ws (λ s ws. suite_asked s call ws)
+version_asked call ws = with_next suite_named ws (λ s ws. cipher_asked (cipher_of s) call ws)
 
 -- each kind of call reads its own words; where no card is being written, write begins one, and prints nothing
 abbrev pub call_asked : CallName → List (List ℕ) → Result (List ℕ) Unread

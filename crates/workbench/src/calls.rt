@@ -1,13 +1,16 @@
 ghost use Rattle.std.specs.Prelude.{◌≡◌, IfOk, Some, string_bytes};
 ghost use Rattle.script.specs.Reasons.{Holds};
 ghost use Rattle.script.specs.Words.{left};
-ghost use Rattle.workbench.specs.Printed.{state_text, step_text, trace_text, call_answer, permutation_asked, suite_asked, version_asked};
+ghost use Rattle.workbench.specs.Printed.{state_text, step_text, trace_text, call_answer, permutation_asked, version_asked};
+ghost use Rattle.workbench.specs.Sealings.{cipher_asked};
+ghost use Rattle.spoc_sealer.specs.Ciphers.{cipher_of};
 
 use crate::cipher::call_cipher;
 use card_calls::read_suite;
 use permutations::{Bench, Light192, Light256, Permutation, Stepped};
 use script::{CipherCall, Hex, PermutationCall, PermutationName, Unread, Words, read_bytes};
-use spoc::{Spoc64, Spoc128, Suite, SuiteName};
+use spoc::SuiteName;
+use spoc_sealer::{BenchSealer, Spoc64Sealer, Spoc128Sealer};
 use std::alloc::{AllocError, Global};
 use std::fmt;
 use std::fmt::Write;
@@ -113,12 +116,12 @@ fn call_suite(
     call: CipherCall,
     words: Words,
 ) -> Result<String, Unread>
-    ensures { Holds string_bytes result (suite_asked suite call (left words.entry)) }
+    ensures { Holds string_bytes result (cipher_asked (cipher_of suite) call (left words.entry)) }
 {
     match suite {
-        SuiteName::Spoc64 => call_cipher::<24, Spoc64>(heap, call, words),
-        SuiteName::Spoc128 => call_cipher::<32, Spoc128>(heap, call, words),
-        SuiteName::Bench => call_cipher::<32, Bench>(heap, call, words),
+        SuiteName::Spoc64 => call_cipher::<Spoc64Sealer>(heap, call, words),
+        SuiteName::Spoc128 => call_cipher::<Spoc128Sealer>(heap, call, words),
+        SuiteName::Bench => call_cipher::<BenchSealer>(heap, call, words),
     }
 }
 

@@ -1,13 +1,13 @@
 ghost use Rattle.std.specs.Prelude.{◌≡◌, IfOk, Some, string_bytes};
 ghost use Rattle.script.specs.Reasons.{Holds};
 ghost use Rattle.script.specs.Words.{left};
-ghost use Rattle.script.specs.declared.CipherCall.TheVariants.{Seal, Open, SealInto, OpenInto};
+ghost use Rattle.script.specs.declared.CipherCall.TheVariants.{Seal, Open, SealInto, OpenInto, Test};
 ghost use Rattle.sealer.specs.Fault.{fault_number, fault_layer};
-ghost use Rattle.workbench.specs.Sealings.{inputs_in, seal_in, open_in, seal_with, open_with, refused_text, first_line, seal_text, open_text, seal_into_text, open_into_text, inputs_of, given_asked, cipher_asked};
+ghost use Rattle.workbench.specs.Sealings.{inputs_in, seal_in, open_in, test_in, seal_with, open_with, test_with, refused_text, first_line, seal_text, open_text, seal_into_text, open_into_text, test_text, inputs_of, given_asked, cipher_asked};
 
-use card_calls::FILLER;
+use card_calls::{FILLER, scratch_word};
 use script::{CipherCall, Hex, Unread, Words, read_bytes, read_number};
-use spoc::{SealFault, Suite, open, seal};
+use sealer::{SealFault, Sealer};
 use std::alloc::{AllocError, Global};
 use std::fmt;
 
@@ -143,18 +143,38 @@ impl fmt::Display for OpenedInto<'_> {
     }
 }
 
+// What test answered, and its scratch.
+#[derive(Drop)]
+struct TestRun {
+    answer: Result<(), SealFault>,
+    scratch: Vec<u8>,
+}
+
+impl fmt::Display for TestRun {
+    ghost output = { λ s. Some (test_text (test_in s)) };
+
+    fn fmt<W: fmt::Write>(&self, f: &mut fmt::Formatter<W>) -> fmt::Result {
+        let first = FirstLine {
+            done: "tested",
+            answer: self.answer,
+        };
+        let word = scratch_word(self.scratch.as_slice());
+        writeln!(f, "{first}scratch {word}")
+    }
+}
+
 // Seals into buffers of these lengths.
-fn run_seal<const B: usize, S: Suite<B>>(
+fn run_seal<C: Sealer>(
     heap: Global,
     given: &Given,
     room: usize,
     width: usize,
 ) -> Result<SealRun, AllocError>
-    ensures { IfOk result (λ s. seal_in s ≡ seal_with S.Bijection.meaning S.SuiteModel.plan (inputs_in given.now) room width) }
+    ensures { IfOk result (λ s. seal_in s ≡ seal_with C.meaning (inputs_in given.now) room width) }
 {
     let mut out = vec![in heap; FILLER; room]?;
     let mut tag = vec![in heap; FILLER; width]?;
-    let answer = seal::<B, S>(
+    let answer = C::seal(
         given.key.as_slice(),
         given.nonce.as_slice(),
         given.data.as_slice(),
@@ -166,16 +186,16 @@ fn run_seal<const B: usize, S: Suite<B>>(
 }
 
 // Opens into a buffer of this length.
-fn run_open<const B: usize, S: Suite<B>>(
+fn run_open<C: Sealer>(
     heap: Global,
     given: &Given,
     tag: &[u8],
     room: usize,
 ) -> Result<OpenRun, AllocError>
-    ensures { IfOk result (λ s. open_in s ≡ open_with S.Bijection.meaning S.SuiteModel.plan (inputs_in given.now) tag.now room) }
+    ensures { IfOk result (λ s. open_in s ≡ open_with C.meaning (inputs_in given.now) tag.now room) }
 {
     let mut out = vec![in heap; FILLER; room]?;
-    let answer = open::<B, S>(
+    let answer = C::open(
         given.key.as_slice(),
         given.nonce.as_slice(),
         given.data.as_slice(),
@@ -186,76 +206,101 @@ fn run_open<const B: usize, S: Suite<B>>(
     Ok(OpenRun { answer, out })
 }
 
-// Seal has no more words.
-fn call_seal<const B: usize, S: Suite<B>>(
+// Tests with a scratch of this length.
+fn run_test<C: Sealer>(
     heap: Global,
     given: &Given,
-    words: Words,
-) -> Result<String, Unread>
-    ensures { Holds string_bytes result (given_asked S.Bijection.meaning S.SuiteModel.plan Seal (inputs_in given.now) (left words.entry)) }
+    tag: &[u8],
+    room: usize,
+) -> Result<TestRun, AllocError>
+    ensures { IfOk result (λ s. test_in s ≡ test_with C.meaning (inputs_in given.now) tag.now room) }
+{
+    let mut scratch = vec![in heap; FILLER; room]?;
+    let answer = C::test(
+        given.key.as_slice(),
+        given.nonce.as_slice(),
+        given.data.as_slice(),
+        given.text.as_slice(),
+        scratch.as_mut_slice(),
+        tag,
+    );
+    Ok(TestRun { answer, scratch })
+}
+
+// Seal has no more words.
+fn call_seal<C: Sealer>(heap: Global, given: &Given, words: Words) -> Result<String, Unread>
+    ensures { Holds string_bytes result (given_asked C.meaning Seal (inputs_in given.now) (left words.entry)) }
 {
     words.finish()?;
-    let sealed = run_seal::<B, S>(heap, given, given.text.len(), S::RATE)?;
+    let sealed = run_seal::<C>(heap, given, given.text.len(), C::WIDTH)?;
     Ok(sealed.to_string(heap)?)
 }
 
 // Open's own words: TAG.
-fn call_open<const B: usize, S: Suite<B>>(
-    heap: Global,
-    given: &Given,
-    mut words: Words,
-) -> Result<String, Unread>
-    ensures { Holds string_bytes result (given_asked S.Bijection.meaning S.SuiteModel.plan Open (inputs_in given.now) (left words.entry)) }
+fn call_open<C: Sealer>(heap: Global, given: &Given, mut words: Words) -> Result<String, Unread>
+    ensures { Holds string_bytes result (given_asked C.meaning Open (inputs_in given.now) (left words.entry)) }
 {
     let tag = read_bytes(heap, words.next_word()?)?;
     words.finish()?;
-    let opened = run_open::<B, S>(heap, given, tag.as_slice(), given.text.len())?;
+    let opened = run_open::<C>(heap, given, tag.as_slice(), given.text.len())?;
     Ok(opened.to_string(heap)?)
 }
 
 // Those of seal-into: ROOM WIDTH.
-fn call_seal_into<const B: usize, S: Suite<B>>(
+fn call_seal_into<C: Sealer>(
     heap: Global,
     given: &Given,
     mut words: Words,
 ) -> Result<String, Unread>
-    ensures { Holds string_bytes result (given_asked S.Bijection.meaning S.SuiteModel.plan SealInto (inputs_in given.now) (left words.entry)) }
+    ensures { Holds string_bytes result (given_asked C.meaning SealInto (inputs_in given.now) (left words.entry)) }
 {
     let room = read_number(words.next_word()?)?;
     let width = read_number(words.next_word()?)?;
     words.finish()?;
-    let sealed = run_seal::<B, S>(heap, given, room as usize, width as usize)?;
+    let sealed = run_seal::<C>(heap, given, room as usize, width as usize)?;
     Ok(SealedInto(&sealed).to_string(heap)?)
 }
 
 // Those of open-into: TAG ROOM.
-fn call_open_into<const B: usize, S: Suite<B>>(
+fn call_open_into<C: Sealer>(
     heap: Global,
     given: &Given,
     mut words: Words,
 ) -> Result<String, Unread>
-    ensures { Holds string_bytes result (given_asked S.Bijection.meaning S.SuiteModel.plan OpenInto (inputs_in given.now) (left words.entry)) }
+    ensures { Holds string_bytes result (given_asked C.meaning OpenInto (inputs_in given.now) (left words.entry)) }
 {
     let tag = read_bytes(heap, words.next_word()?)?;
     let room = read_number(words.next_word()?)?;
     words.finish()?;
-    let opened = run_open::<B, S>(heap, given, tag.as_slice(), room as usize)?;
+    let opened = run_open::<C>(heap, given, tag.as_slice(), room as usize)?;
     Ok(OpenedInto(&opened).to_string(heap)?)
 }
 
-// Makes a call of the cipher over a suite, from the words after the version: KEY NONCE DATA TEXT, and then each call's own.
-pub(crate) fn call_cipher<const B: usize, S: Suite<B>>(
+// Those of test: TAG ROOM.
+fn call_test<C: Sealer>(heap: Global, given: &Given, mut words: Words) -> Result<String, Unread>
+    ensures { Holds string_bytes result (given_asked C.meaning Test (inputs_in given.now) (left words.entry)) }
+{
+    let tag = read_bytes(heap, words.next_word()?)?;
+    let room = read_number(words.next_word()?)?;
+    words.finish()?;
+    let tested = run_test::<C>(heap, given, tag.as_slice(), room as usize)?;
+    Ok(tested.to_string(heap)?)
+}
+
+// Makes a call of a cipher, from the words after the version: KEY NONCE DATA TEXT, and then each call's own.
+pub(crate) fn call_cipher<C: Sealer>(
     heap: Global,
     call: CipherCall,
     mut words: Words,
 ) -> Result<String, Unread>
-    ensures { Holds string_bytes result (cipher_asked S.Bijection.meaning S.SuiteModel.plan call (left words.entry)) }
+    ensures { Holds string_bytes result (cipher_asked C.meaning call (left words.entry)) }
 {
     let given = read_given(heap, &mut words)?;
     match call {
-        CipherCall::Seal => call_seal::<B, S>(heap, &given, words),
-        CipherCall::Open => call_open::<B, S>(heap, &given, words),
-        CipherCall::SealInto => call_seal_into::<B, S>(heap, &given, words),
-        CipherCall::OpenInto => call_open_into::<B, S>(heap, &given, words),
+        CipherCall::Seal => call_seal::<C>(heap, &given, words),
+        CipherCall::Open => call_open::<C>(heap, &given, words),
+        CipherCall::SealInto => call_seal_into::<C>(heap, &given, words),
+        CipherCall::OpenInto => call_open_into::<C>(heap, &given, words),
+        CipherCall::Test => call_test::<C>(heap, &given, words),
     }
 }
