@@ -79,7 +79,7 @@ abbrev pub open_into_text : Opened → List ℕ
 open_into_text s = first_line (codes "opened") s.answer ++ (codes "output " ++ (hex_text s.out ++ (10 ∷ [])))
 
 -- tested, and what is said of the scratch
-abbrev pub test_text : Opened → List ℕ
+unfoldable pub test_text : Opened → List ℕ
 test_text s = first_line (codes "tested") s.answer ++ (codes "scratch " ++ (scratch_word s.out ++ (10 ∷ [])))
 
 -- KEY NONCE DATA TEXT, the words that every call of the cipher reads, and the words after them
@@ -110,5 +110,5 @@ given_asked S Test g ws =
     with_read (ending ws) (λ _. Ok (test_text (test_with S g tag room)))))
 
 -- a call of a cipher, from the words after the version
-abbrev pub cipher_asked : Sealing → CipherCall → List (List ℕ) → Result (List ℕ) Unread
+unfoldable pub cipher_asked : Sealing → CipherCall → List (List ℕ) → Result (List ℕ) Unread
 cipher_asked S call ws = with_read (inputs_of ws) (λ g. given_asked S call g.0 g.1)

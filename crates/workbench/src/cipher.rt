@@ -153,6 +153,7 @@ struct TestRun {
 impl fmt::Display for TestRun {
     ghost output = { λ s. Some (test_text (test_in s)) };
 
+    #[tactic(auto, unfolding(crate::specs::Sealings::test_text))]
     fn fmt<W: fmt::Write>(&self, f: &mut fmt::Formatter<W>) -> fmt::Result {
         let first = FirstLine {
             done: "tested",
@@ -288,6 +289,7 @@ fn call_test<C: Sealer>(heap: Global, given: &Given, mut words: Words) -> Result
 }
 
 // Makes a call of a cipher, from the words after the version: KEY NONCE DATA TEXT, and then each call's own.
+#[tactic(auto, unfolding(crate::specs::Sealings::cipher_asked))]
 pub(crate) fn call_cipher<C: Sealer>(
     heap: Global,
     call: CipherCall,
