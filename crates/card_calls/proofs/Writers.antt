@@ -4,7 +4,7 @@ use Rattle.std.proofs.lemmas.List.{append_assoc, append-nil, map-append, take_al
 use Rattle.std.specs.declared.alloc.AllocError.{AllocError}
 use Rattle.std.specs.declared.alloc.Global.{Global}
 use Rattle.sealer.specs.Sealing.{Sealing}
-use Rattle.spoc.specs.declared.SuiteName.{SuiteName}
+use Rattle.sealers.specs.declared.SealerName.{SealerName}
 use Rattle.cards.specs.Faults.{Fault, of_card, told}
 use Rattle.cards.specs.Plain.{Plain, start, start_medium, left_by, started}
 use Rattle.cards.specs.Runs.{Call, run}
@@ -14,7 +14,7 @@ use Rattle.writer.specs.Stands.{Stands, Starts}
 use Rattle.writer.specs.declared.Call as code
 use Rattle.writer.specs.declared.Writer.{Writer}
 use Rattle.card_calls.specs.Readings.{refused_line}
-use Rattle.spoc_sealer.specs.Ciphers.{cipher_of}
+use Rattle.sealers.specs.Names.{cipher_of}
 use Rattle.card_calls.specs.Writings.{Draft, Written, step_call, draft_in, with_call, call_line, call_lines, write_on, written, draft_over, draft_text}
 use Rattle.card_calls.specs.declared.writing.Draft as code_draft
 use Rattle.card_calls.specs.declared.writing.Step.{Step}
@@ -65,10 +65,10 @@ made_so (Ok t) P m f = f (string_bytes t) m
 made_so (Err a) P m f = tt
 
 -- one call more
-pub added : (d : code_draft.Draft) (steps : Vec Step Global) (x : Step) (b : Bool) → vec_items steps ≡ cond b (vec_items d.steps ++ x ∷ []) (vec_items d.steps) → draft_in (record { suite = d.suite; key = d.key; number = d.number; size = d.size; fill = d.fill; steps = steps }) ≡ cond b (with_call (draft_in d) (step_call x)) (draft_in d)
+pub added : (d : code_draft.Draft) (steps : Vec Step Global) (x : Step) (b : Bool) → vec_items steps ≡ cond b (vec_items d.steps ++ x ∷ []) (vec_items d.steps) → draft_in (record { sealer = d.sealer; key = d.key; number = d.number; size = d.size; fill = d.fill; steps = steps }) ≡ cond b (with_call (draft_in d) (step_call x)) (draft_in d)
 unfolding draft_in with_call
-added d steps x true e = ap (λ (cs : List Call). record { suite = d.suite; key = vec_items d.key; number = d.number; size = d.size; fill = d.fill; calls = cs }) (ap (map step_call) e ∙ map-append step_call (vec_items d.steps) (x ∷ []))
-added d steps x false e = ap (λ (cs : List Step). record { suite = d.suite; key = vec_items d.key; number = d.number; size = d.size; fill = d.fill; calls = map step_call cs }) e
+added d steps x true e = ap (λ (cs : List Call). record { sealer = d.sealer; key = vec_items d.key; number = d.number; size = d.size; fill = d.fill; calls = cs }) (ap (map step_call) e ∙ map-append step_call (vec_items d.steps) (x ∷ []))
+added d steps x false e = ap (λ (cs : List Step). record { sealer = d.sealer; key = vec_items d.key; number = d.number; size = d.size; fill = d.fill; calls = map step_call cs }) e
 
 -- a list that is mapped element by element
 pub mapped_more : {A B C : Type 0} (f : A → C) (g : B → C) (xs ys : List A) (zs : List B) (i : ℕ) (x : A) (z : B) → map f xs ≡ map g (take i zs) → i < length zs → z ≡ get_or zs i z → f x ≡ g z → ys ≡ xs ++ x ∷ [] → map f ys ≡ map g (take (i + 1) zs)
@@ -114,7 +114,7 @@ pub made_same : (r : Result (String Global) AllocError) {p q : List ℕ} → IfO
 made_same (Ok t) m e = m ∙ e
 made_same (Err x) m e = tt
 
--- a draft is written under its own suite
-pub under_suite : (d : code_draft.Draft) (s : SuiteName) → d.suite ≡ s → draft_over (cipher_of s) (draft_in d) ≡ draft_text (draft_in d)
+-- a draft is written under its own sealer
+pub under_sealer : (d : code_draft.Draft) (s : SealerName) → d.sealer ≡ s → draft_over (cipher_of s) (draft_in d) ≡ draft_text (draft_in d)
 unfolding draft_in
-under_suite d s e = ap (λ (x : SuiteName). draft_over (cipher_of x) (draft_in d)) (sym e)
+under_sealer d s e = ap (λ (x : SealerName). draft_over (cipher_of x) (draft_in d)) (sym e)

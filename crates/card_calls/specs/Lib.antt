@@ -1,3 +1,3 @@
-pub mod Suites
+pub mod Versions
 pub mod Readings
 pub mod Writings

@@ -13,8 +13,8 @@ use Rattle.script.specs.Words.{with_read, with_next, ending}
 use Rattle.script.specs.declared.ReaderCall.{ReaderCall}
 use Rattle.script.specs.declared.ReaderCall.TheVariants as c
 use Rattle.script.specs.declared.Unread.{Unread}
-use Rattle.card_calls.specs.Suites.{suite_named}
-use Rattle.spoc_sealer.specs.Ciphers.{cipher_of}
+use Rattle.card_calls.specs.Versions.{sealer_named}
+use Rattle.sealers.specs.Names.{cipher_of}
 use Rattle.card_calls.specs.declared.reading.CheckRun.{CheckRun}
 use Rattle.card_calls.specs.declared.reading.SheetRun.{SheetRun}
 
@@ -159,4 +159,4 @@ reader_over S c.Find ws =
 
 -- a call of the reader reads a version first
 abbrev pub reader_asked : ReaderCall → List (List ℕ) → Result (List ℕ) Unread
-reader_asked call ws = with_next suite_named ws (λ s ws. reader_over (cipher_of s) call ws)
+reader_asked call ws = with_next sealer_named ws (λ s ws. reader_over (cipher_of s) call ws)

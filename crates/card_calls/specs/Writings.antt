@@ -1,7 +1,7 @@
 -- What the lines of a card that is being written read and print. Assumes nothing.
 use Rattle.std.specs.Prelude.{◌≡◌, ℕ, ◌⊎◌, List, [], ◌∷◌, ◌++◌, map, replicate, Ok, Err, vec_items, string_bytes, codes, decimal, Result}
 use Rattle.sealer.specs.Sealing.{Sealing}
-use Rattle.spoc.specs.declared.SuiteName.{SuiteName}
+use Rattle.sealers.specs.declared.SealerName.{SealerName}
 use Rattle.cards.specs.Faults.{Fault}
 use Rattle.cards.specs.Format.{a_sheet}
 use Rattle.cards.specs.Plain.{Plain, start}
@@ -12,16 +12,16 @@ use Rattle.script.specs.Words.{with_read, with_next, ending}
 use Rattle.script.specs.declared.Unread.{Unread}
 use Rattle.script.specs.declared.Unread.TheVariants.{Memory}
 use Rattle.card_calls.specs.Readings.{refused_line}
-use Rattle.card_calls.specs.Suites.{suite_named}
-use Rattle.spoc_sealer.specs.Ciphers.{cipher_of}
+use Rattle.card_calls.specs.Versions.{sealer_named}
+use Rattle.sealers.specs.Names.{cipher_of}
 use Rattle.card_calls.specs.declared.writing.Draft as code
 use Rattle.card_calls.specs.declared.writing.Step.{Step}
 use Rattle.card_calls.specs.declared.writing.WriteRun.{WriteRun}
 use Rattle.card_calls.specs.declared.writing.Step.TheVariants.{Append, Close}
 
--- a card that is being written: its suite, what start is handed, and the calls after it
+-- a card that is being written: its sealer, what start is handed, and the calls after it
 pub record Draft : Type 0 where
-  pub suite : SuiteName
+  pub sealer : SealerName
   pub key : List ℕ
   pub number : ℕ
   pub size : ℕ
@@ -35,17 +35,17 @@ step_call Close = close
 
 -- a card that is being written, in memory
 unfoldable pub draft_in : code.Draft → Draft
-draft_in d = record { suite = d.suite; key = vec_items d.key; number = d.number; size = d.size; fill = d.fill; calls = map step_call (vec_items d.steps) }
+draft_in d = record { sealer = d.sealer; key = vec_items d.key; number = d.number; size = d.size; fill = d.fill; calls = map step_call (vec_items d.steps) }
 
 -- VERSION KEY NUMBER SIZE FILL
 abbrev pub draft_of : List (List ℕ) → Result Draft Unread
 draft_of ws =
-    with_next suite_named ws (λ suite ws.
+    with_next sealer_named ws (λ sealer ws.
     with_next bytes_of ws (λ key ws.
     with_next number_of ws (λ number ws.
     with_next number_of ws (λ size ws.
     with_next (λ w. byte_alone (bytes_of w)) ws (λ fill ws.
-    with_read (ending ws) (λ _. Ok (record { suite = suite; key = key; number = number; size = size; fill = fill; calls = [] })))))))
+    with_read (ending ws) (λ _. Ok (record { sealer = sealer; key = key; number = number; size = size; fill = fill; calls = [] })))))))
 
 -- CELL EDITION BODY
 abbrev pub append_of : List (List ℕ) → Result Call Unread
@@ -61,7 +61,7 @@ close_of ws = with_read (ending ws) (λ _. Ok close)
 
 -- one call more
 unfoldable pub with_call : Draft → Call → Draft
-with_call d c = record { suite = d.suite; key = d.key; number = d.number; size = d.size; fill = d.fill; calls = d.calls ++ c ∷ [] }
+with_call d c = record { sealer = d.sealer; key = d.key; number = d.number; size = d.size; fill = d.fill; calls = d.calls ++ c ∷ [] }
 
 -- a call that is added to a card, against what is asked; where it is not, the card stays
 abbrev pub Adds : Result (Unit {0}) Unread → Draft → Draft → Result Call Unread → Type 0
@@ -106,6 +106,6 @@ written_text x = x.lines ++ (codes "medium " ++ (hex_text x.medium ++ (10 ∷ []
 unfoldable pub draft_over : Sealing → Draft → List ℕ
 draft_over S d = written_text (write_on S d (replicate d.size d.fill))
 
--- the same under its own suite: what end prints
+-- the same under its own sealer: what end prints
 abbrev pub draft_text : Draft → List ℕ
-draft_text d = draft_over (cipher_of d.suite) d
+draft_text d = draft_over (cipher_of d.sealer) d

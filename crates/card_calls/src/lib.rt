@@ -3,9 +3,9 @@
 
 mod front;
 mod reading;
-mod suites;
+mod versions;
 mod writing;
 
 pub use reading::{FILLER, call_reader, scratch_word};
-pub use suites::read_suite;
+pub use versions::read_sealer;
 pub use writing::Draft;

@@ -8,12 +8,12 @@ ghost use Rattle.reader.specs.Cards.{shown};
 ghost use Rattle.card_calls.specs.Readings.{all_are, is_wiped, scratch_word, check_in, counted, check_text, check_said, sheet_in, read_answer, read_buffer, head_line, sheet_text, sheet_said, find_with, find_text, find_said, FoundAlone, reader_over, reader_asked};
 
 use crate::front::front_of;
-use crate::suites::read_suite;
+use crate::versions::read_sealer;
 use cards::CardFault;
 use reader::{Card, SheetHead, check, find, sheet};
 use script::{Hex, ReaderCall, Unread, Words, read_bytes, read_cell, read_number};
 use sealer::{SCRATCH_BYTES, Sealer};
-use spoc::SuiteName;
+use sealers::SealerName;
 use spoc_sealer::{BenchSealer, Spoc64Sealer, Spoc128Sealer};
 use std::alloc::{AllocError, Global};
 use std::fmt;
@@ -288,7 +288,7 @@ fn call_find<C: Sealer>(heap: Global, mut words: Words) -> Result<String, Unread
     Ok(given.answer_find::<C>(heap, cell)?)
 }
 
-// Makes a call of the reader over a suite, from the words after the version.
+// Makes a call of the reader over a sealer, from the words after the version.
 fn call_over<C: Sealer>(
     heap: Global,
     call: ReaderCall,
@@ -303,16 +303,16 @@ fn call_over<C: Sealer>(
     }
 }
 
-// Reads a version, and makes a call of the reader over its suite: a match on the name for each generic function, here and in the
-// workbench's call_suite, as the suite is a type. The answer of find that is printed is the only one that find's contract allows.
+// Reads a version, and makes a call of the reader over its sealer: a match on the name for each generic function, here and in the
+// workbench's call_sealer, as the sealer is a type. The answer of find that is printed is the only one that find's contract allows.
 #[tactic(auto, using(crate::proofs::Finding::found_alone))]
 pub fn call_reader(heap: Global, call: ReaderCall, mut words: Words) -> Result<String, Unread>
     ensures text { Holds string_bytes result (reader_asked call (left words.entry)) }
     ensures found { FoundAlone }
 {
-    match read_suite(words.next_word()?)? {
-        SuiteName::Spoc64 => call_over::<Spoc64Sealer>(heap, call, words),
-        SuiteName::Spoc128 => call_over::<Spoc128Sealer>(heap, call, words),
-        SuiteName::Bench => call_over::<BenchSealer>(heap, call, words),
+    match read_sealer(words.next_word()?)? {
+        SealerName::Spoc64 => call_over::<Spoc64Sealer>(heap, call, words),
+        SealerName::Spoc128 => call_over::<Spoc128Sealer>(heap, call, words),
+        SealerName::Bench => call_over::<BenchSealer>(heap, call, words),
     }
 }

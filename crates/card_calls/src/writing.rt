@@ -9,11 +9,11 @@ ghost use Rattle.writer.specs.Stands.{Stands};
 ghost use Rattle.card_calls.specs.Writings.{step_call, draft_in, draft_of, append_of, close_of, with_call, call_line, call_lines, write_on, written_in, written_text, draft_over, draft_text, Written, Adds};
 
 use crate::front::front_of;
-use crate::suites::read_suite;
+use crate::versions::read_sealer;
 use cards::CardFault;
 use script::{Hex, Unread, Words, read_byte, read_bytes, read_cell, read_edition, read_number};
 use sealer::Sealer;
-use spoc::SuiteName;
+use sealers::SealerName;
 use spoc_sealer::{BenchSealer, Spoc64Sealer, Spoc128Sealer};
 use std::alloc::{AllocError, AllocFailed, Global};
 use std::fmt;
@@ -66,10 +66,10 @@ fn read_append(heap: Global, mut words: Words) -> Result<Step, Unread>
     })
 }
 
-// A card that is being written: its suite, what start is handed, and the calls after it.
+// A card that is being written: its sealer, what start is handed, and the calls after it.
 #[derive(Drop)]
 pub struct Draft {
-    suite: SuiteName,
+    sealer: SealerName,
     key: Vec<u8>,
     number: u64,
     size: usize,
@@ -82,14 +82,14 @@ impl Draft {
     pub fn read(heap: Global, mut words: Words) -> Result<Draft, Unread>
         ensures { Holds draft_in result (draft_of (left words.entry)) }
     {
-        let suite = read_suite(words.next_word()?)?;
+        let sealer = read_sealer(words.next_word()?)?;
         let key = read_bytes(heap, words.next_word()?)?;
         let number = read_number(words.next_word()?)?;
         let size = read_number(words.next_word()?)?;
         let fill = read_byte(heap, words.next_word()?)?;
         words.finish()?;
         Ok(Draft {
-            suite,
+            sealer,
             key,
             number,
             size: size as usize,
@@ -141,7 +141,7 @@ impl Draft {
         }
     }
 
-    // Writes the card on a new medium, under a suite.
+    // Writes the card on a new medium, under a sealer.
     fn answer_over<C: Sealer + Drop>(
         &self,
         heap: Global,
@@ -157,10 +157,10 @@ impl Draft {
     pub fn answer(&self, heap: Global) -> Result<String, AllocError>
         ensures { IfOk result (λ t. string_bytes t ≡ draft_text (draft_in self.now)) }
     {
-        match self.suite {
-            SuiteName::Spoc64 => self.answer_over::<Spoc64Sealer>(heap),
-            SuiteName::Spoc128 => self.answer_over::<Spoc128Sealer>(heap),
-            SuiteName::Bench => self.answer_over::<BenchSealer>(heap),
+        match self.sealer {
+            SealerName::Spoc64 => self.answer_over::<Spoc64Sealer>(heap),
+            SealerName::Spoc128 => self.answer_over::<Spoc128Sealer>(heap),
+            SealerName::Bench => self.answer_over::<BenchSealer>(heap),
         }
     }
 }

@@ -116,7 +116,7 @@ module _ (S : Sealing) (key bs : List ℕ) where
   opened_not i p rest h buffer f (Some m') m e op is n = grind (arith, nat_tests)
   opened_not i p rest h buffer f None m e op is n = let z : ◌≡◌ {A = ℕ} 0 1 = cc in omega arith
 
-  -- sheet never answers 6 on it, under the suite that passed it
+  -- sheet never answers 6 on it, under the sealer that passed it
   pub never_six : (scratch : ℕ) (c : Card) → check S key scratch bs ≡ Ok c → (i buffer : ℕ) (f : Fault) → sheet_answer S c i buffer ≡ Err f → f.number ≡ 6 → ⊥
   never_six scratch c h i buffer f is n =
       let x = checked_back S key bs scratch c h in

@@ -79,7 +79,7 @@ pub enum CardNo {
     Cut = 10,
     // The mark is not SEA.
     Mark = 11,
-    // The version is not the suite's, or of a checked card the width.
+    // The version is not the sealer's, or of a checked card the width.
     Version = 12,
     // Bytes are left after the end record.
     Left = 15,

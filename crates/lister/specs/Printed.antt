@@ -2,11 +2,11 @@
 use Rattle.std.specs.Prelude.{◌≡◌, ℕ, suc, ◌+◌, ◌*◌, ◌<◌, cond, List, [], ◌∷◌, ◌++◌, length, take, drop, Ok, Err, string_bytes, codes, decimal, Result, String, nat_le, slice_index, slice_index_or}
 use Rattle.std.specs.declared.alloc.Global.{Global}
 use Rattle.std.specs.Str.{bytes_eq}
-use Rattle.spoc.specs.Name.{suite_of}
+use Rattle.sealers.specs.Names.{sealer_of}
 use Rattle.sealer.specs.Sealing.{Sealing}
-use Rattle.spoc_sealer.specs.Ciphers.{cipher_of}
-use Rattle.spoc.specs.declared.NoSuchVersion.{NoSuchVersion}
-use Rattle.spoc.specs.declared.SuiteName.{SuiteName}
+use Rattle.sealers.specs.Names.{cipher_of}
+use Rattle.sealers.specs.declared.NoSuchVersion.{NoSuchVersion}
+use Rattle.sealers.specs.declared.SealerName.{SealerName}
 use Rattle.cards.specs.Faults.{Fault, fault, and_then, of_card, refused_text}
 use Rattle.cards.specs.Format.{Sheet, mark}
 use Rattle.cards.specs.Reader.{Card, check_bytes, sheet_answer, version_of}
@@ -46,14 +46,14 @@ header_asked bs =
     (Err (fault 11 3 0 0)))
     (Err (fault 10 3 0 0))
 
--- a card under the suite of a version, if there is one
-abbrev pub under : Result SuiteName NoSuchVersion → List ℕ → ℕ → List ℕ → Result (List ℕ) Fault
+-- a card under the sealer of a version, if there is one
+abbrev pub under : Result SealerName NoSuchVersion → List ℕ → ℕ → List ℕ → Result (List ℕ) Fault
 under (Ok s) = listed (cipher_of s)
 under (Err e) = λ key number bs. Err (fault 12 3 0 3)
 
--- the version picks the suite
+-- the version picks the sealer
 abbrev pub by_version : List ℕ → List ℕ → Header → Result (List ℕ) Fault
-by_version key bs h = under (suite_of h.version) key h.number bs
+by_version key bs h = under (sealer_of h.version) key h.number bs
 
 -- the card alone
 abbrev pub card_listed : List ℕ → List ℕ → Result (List ℕ) Fault

@@ -10,7 +10,7 @@ ghost use Rattle.lister.specs.Printed.{card_line, sheet_line, sheet_lines, liste
 use cards::{CardFault, CardNo, HEADER_BYTES, MARK, MOST_BODY};
 use reader::{Card, SheetHead, check, sheet};
 use sealer::{SCRATCH_BYTES, SealFault, Sealer};
-use spoc::{NoSuchVersion, SuiteName};
+use sealers::{NoSuchVersion, SealerName};
 use spoc_sealer::{BenchSealer, Spoc64Sealer, Spoc128Sealer};
 use std::alloc::{AllocError, Global};
 use std::fmt;
@@ -26,7 +26,7 @@ struct Header {
     number: u64,
 }
 
-// The questions on the header that come before the suite is known; check asks them again, as it promises.
+// The questions on the header that come before the sealer is known; check asks them again, as it promises.
 impl TryFrom<&[u8]> for Header {
     type Error = CardFault;
 
@@ -154,15 +154,15 @@ fn list_under<C: Sealer>(
     list_sheets::<C>(&card, line.to_string(heap)?)
 }
 
-// What is printed of a card: its version picks the suite.
+// What is printed of a card: its version picks the sealer.
 fn list_card(heap: Global, key: &[u8; 16], bytes: &[u8]) -> Result<String, Unlisted>
     ensures { Says result (card_listed key.now bytes.now) }
 {
     let Header { version, number } = Header::try_from(bytes)?;
-    match SuiteName::try_from(u64::from(version))? {
-        SuiteName::Spoc64 => list_under::<Spoc64Sealer>(heap, key, number, bytes),
-        SuiteName::Spoc128 => list_under::<Spoc128Sealer>(heap, key, number, bytes),
-        SuiteName::Bench => list_under::<BenchSealer>(heap, key, number, bytes),
+    match SealerName::try_from(version)? {
+        SealerName::Spoc64 => list_under::<Spoc64Sealer>(heap, key, number, bytes),
+        SealerName::Spoc128 => list_under::<Spoc128Sealer>(heap, key, number, bytes),
+        SealerName::Bench => list_under::<BenchSealer>(heap, key, number, bytes),
     }
 }
 

@@ -40,7 +40,7 @@ headed_refused : (a : Result Sheet Fault) (f : Fault) → headed a ≡ Err f →
 headed_refused (Ok s) f e = absurd (let z : ◌≡◌ {A = ℕ} 0 1 = cc in omega arith)
 headed_refused (Err f') f e = ap Err (cc)
 
--- under the suite that passed the card, the tag agrees
+-- under the sealer that passed the card, the tag agrees
 pub no_mismatch : (S : Sealing) (c : Card) (i o : ℕ) (a : Result SheetHead Fault) → a ≡ headed (sheet_answer S c i o) → (key : List ℕ) (scratch : ℕ) (bytes : List ℕ) → check S key scratch bytes ≡ Ok c → NoMismatch a
 no_mismatch S c i o (Ok x) is key scratch bytes h = tt
 no_mismatch S c i o (Err f) is key scratch bytes h = λ n. never_six S key bytes scratch c h i o f (headed_refused (sheet_answer S c i o) f (sym is)) n

@@ -4,16 +4,17 @@ use Rattle.sealer.specs.declared.fault.SealFault.{SealFault}
 use Rattle.sealer.specs.declared.fault.SealFault.TheVariants.{KeyLength, NonceLength, TooLong, OutputShort, TagLength, TagMismatch}
 use Rattle.sealer.specs.Sealing.{Sealing}
 
--- the first no to questions 3 to 5, of data, a message, an output that is to have w bytes, and the tag
+-- the first no to questions 3 to 5, of data, a message, an output that is to have `room` bytes, and a tag that is to have `width`
 abbrev pub lengths_no : ℕ → ℕ → List ℕ → List ℕ → List ℕ → List ℕ → Option SealFault
-lengths_no r w d m o t =
+lengths_no width room d m o t =
     cond (nat_le (length d) 65535 && nat_le (length m) 65535)
-    (cond (nat_le w (length o)) (cond (length t == r) None (Some TagLength)) (Some OutputShort))
+    (cond (nat_le room (length o)) (cond (length t == width) None (Some TagLength)) (Some OutputShort))
     (Some TooLong)
 
 -- the first no to questions 1 to 5
 abbrev pub first_no : ℕ → ℕ → List ℕ → List ℕ → List ℕ → List ℕ → List ℕ → List ℕ → Option SealFault
-first_no r w k n d m o t = cond (length k == 16) (cond (length n == 16) (lengths_no r w d m o t) (Some NonceLength)) (Some KeyLength)
+first_no width room k n d m o t =
+    cond (length k == 16) (cond (length n == 16) (lengths_no width room d m o t) (Some NonceLength)) (Some KeyLength)
 
 -- seal's answer, and what the output and the tag's buffer hold
 pub record Sealed : Type 0 where

@@ -84,7 +84,7 @@ fn time<C: Sealer + Drop>(rt: &HostRuntime, name: &str) -> anyhow::Result<()> {
     Ok(())
 }
 
-pub fn suites(rt: &HostRuntime) -> anyhow::Result<()> {
+pub fn sealers(rt: &HostRuntime) -> anyhow::Result<()> {
     time::<Spoc64Sealer>(rt, "SpoC-64")?;
     time::<Spoc128Sealer>(rt, "SpoC-128")?;
     time::<BenchSealer>(rt, "bench")?;

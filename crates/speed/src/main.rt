@@ -13,7 +13,7 @@ fn main(rt: HostRuntime) -> anyhow::Result<()> {
         match word.as_str() {
             "permutations" => walks::permutations(&rt)?,
             "cipher" => cipher::suites(&rt)?,
-            "cards" => checks::suites(&rt)?,
+            "cards" => checks::sealers(&rt)?,
             _ => {}
         }
     }

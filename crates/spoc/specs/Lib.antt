@@ -2,7 +2,6 @@ pub mod Bench
 pub mod Claims
 pub mod Feed
 pub mod Known
-pub mod Name
 pub mod Seal
 pub mod Sealing
 pub mod Spoc128

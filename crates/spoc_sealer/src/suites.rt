@@ -11,7 +11,7 @@ use std::marker::PhantomData;
 /// No value of it is made: writer and reader take it as a type.
 #[derive(Drop)]
 pub struct Spoc<const B: usize, S> {
-    pub suite: PhantomData<S>,
+    suite: PhantomData<S>,
 }
 
 /// SpoC-64, version 1: tags of 8 bytes.

@@ -4,7 +4,8 @@
 #[cfg(test)]
 mod tests {
     use permutations::Bench;
-    use spoc::{SealFault, Spoc64, Spoc128, Suite};
+    use sealer::SealFault;
+    use spoc::{Spoc64, Spoc128, Suite};
     use std::process::Abort;
 
     // Both vectors have one key, nonce, data and message.
@@ -61,6 +62,12 @@ mod tests {
             Ok(())
         );
         assert_eq!(rt; message, MESSAGE);
+        let mut scratch = [7; 17];
+        assert_eq!(rt;
+            spoc::test::<B, S>(&KEY, &NONCE, &DATA, &ciphertext, &mut scratch, &tag),
+            Ok(())
+        );
+        assert_eq!(rt; scratch, *b"\0\0\0\0\0\0\0\0\0\0\0\0\0\0\0\0\x07");
     }
 
     #[test]
@@ -86,6 +93,32 @@ mod tests {
         );
         assert_eq!(rt; answer, Err(SealFault::TagMismatch));
         assert_eq!(rt; message, [0, 0, 0, 0, 0, 0, 0, 0, 0, 0, 0, 0, 0, 0, 0, 7]);
+        let mut scratch = [7; 16];
+        let answer = spoc::test::<24, Spoc64>(
+            &KEY,
+            &NONCE,
+            &DATA,
+            &CIPHERTEXT_64,
+            &mut scratch,
+            &[0; 8],
+        );
+        assert_eq!(rt; answer, Err(SealFault::TagMismatch));
+        assert_eq!(rt; scratch, [0; 16]);
+    }
+
+    #[test]
+    fn test_asks_for_16_bytes(rt: HostRuntime) {
+        let mut scratch = [7; 15];
+        let answer = spoc::test::<24, Spoc64>(
+            &KEY,
+            &NONCE,
+            &DATA,
+            &CIPHERTEXT_64,
+            &mut scratch,
+            &TAG_64,
+        );
+        assert_eq!(rt; answer, Err(SealFault::OutputShort));
+        assert_eq!(rt; scratch, [7; 15]);
     }
 
     #[test]

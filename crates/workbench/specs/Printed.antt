@@ -5,7 +5,7 @@ use Rattle.permutations.specs.Bench.{bench, bench_walk}
 use Rattle.permutations.specs.Light.{light_192, light_256, walk_192, walk_256}
 use Rattle.permutations.specs.Permutation.{Perm, Walk, stepped}
 use Rattle.script.specs.Hex.{bytes_of, hex_text}
-use Rattle.spoc_sealer.specs.Ciphers.{cipher_of}
+use Rattle.sealers.specs.Names.{cipher_of}
 use Rattle.script.specs.Lines.{silent, trimmed}
 use Rattle.script.specs.Names.{call_named, permutation_named}
 use Rattle.script.specs.Reasons.{reason}
@@ -22,7 +22,7 @@ use Rattle.script.specs.declared.Unread.TheVariants.{StateLength, NoCard, CardOp
 use Rattle.script.specs.declared.WriterCall.{WriterCall}
 use Rattle.script.specs.declared.WriterCall.TheVariants.{Append, Close, End}
 use Rattle.card_calls.specs.Readings.{reader_asked}
-use Rattle.card_calls.specs.Suites.{suite_named}
+use Rattle.card_calls.specs.Versions.{sealer_named}
 use Rattle.card_calls.specs.Writings.{Draft, draft_of, append_of, close_of, with_call, draft_text}
 use Rattle.workbench.specs.Sealings.{cipher_asked}
 
@@ -64,7 +64,7 @@ permutation_asked call ws =
 
 -- a call of the cipher reads a version first
 abbrev pub version_asked : CipherCall → List (List ℕ) → Result (List ℕ) Unread
-version_asked call ws = with_next suite_named ws (λ s ws. cipher_asked (cipher_of s) call ws)
+version_asked call ws = with_next sealer_named ws (λ s ws. cipher_asked (cipher_of s) call ws)
 
 -- each kind of call reads its own words; where no card is being written, write begins one, and prints nothing
 abbrev pub call_asked : CallName → List (List ℕ) → Result (List ℕ) Unread

@@ -3,13 +3,13 @@ ghost use Rattle.script.specs.Reasons.{Holds};
 ghost use Rattle.script.specs.Words.{left};
 ghost use Rattle.workbench.specs.Printed.{state_text, step_text, trace_text, call_answer, permutation_asked, version_asked};
 ghost use Rattle.workbench.specs.Sealings.{cipher_asked};
-ghost use Rattle.spoc_sealer.specs.Ciphers.{cipher_of};
+ghost use Rattle.sealers.specs.Names.{cipher_of};
 
 use crate::cipher::call_cipher;
-use card_calls::read_suite;
+use card_calls::read_sealer;
 use permutations::{Bench, Light192, Light256, Permutation, Stepped};
 use script::{CipherCall, Hex, PermutationCall, PermutationName, Unread, Words, read_bytes};
-use spoc::SuiteName;
+use sealers::SealerName;
 use spoc_sealer::{BenchSealer, Spoc64Sealer, Spoc128Sealer};
 use std::alloc::{AllocError, Global};
 use std::fmt;
@@ -109,23 +109,23 @@ pub(crate) fn call_permutation(
     }
 }
 
-// Makes a call of the cipher over the suite of this name: the match is that of call_reader, over another generic function.
-fn call_suite(
+// Makes a call of the cipher over the sealer of this name: the match is that of call_reader, over another generic function.
+fn call_sealer(
     heap: Global,
-    suite: SuiteName,
+    sealer: SealerName,
     call: CipherCall,
     words: Words,
 ) -> Result<String, Unread>
-    ensures { Holds string_bytes result (cipher_asked (cipher_of suite) call (left words.entry)) }
+    ensures { Holds string_bytes result (cipher_asked (cipher_of sealer) call (left words.entry)) }
 {
-    match suite {
-        SuiteName::Spoc64 => call_cipher::<Spoc64Sealer>(heap, call, words),
-        SuiteName::Spoc128 => call_cipher::<Spoc128Sealer>(heap, call, words),
-        SuiteName::Bench => call_cipher::<BenchSealer>(heap, call, words),
+    match sealer {
+        SealerName::Spoc64 => call_cipher::<Spoc64Sealer>(heap, call, words),
+        SealerName::Spoc128 => call_cipher::<Spoc128Sealer>(heap, call, words),
+        SealerName::Bench => call_cipher::<BenchSealer>(heap, call, words),
     }
 }
 
-// Reads a version, and makes the call over its suite.
+// Reads a version, and makes the call over its sealer.
 pub(crate) fn call_version(
     heap: Global,
     call: CipherCall,
@@ -133,6 +133,6 @@ pub(crate) fn call_version(
 ) -> Result<String, Unread>
     ensures { Holds string_bytes result (version_asked call (left words.entry)) }
 {
-    let suite = read_suite(words.next_word()?)?;
-    call_suite(heap, suite, call, words)
+    let sealer = read_sealer(words.next_word()?)?;
+    call_sealer(heap, sealer, call, words)
 }
