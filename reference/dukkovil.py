@@ -1,4 +1,4 @@
-"""A reference of the permutations, the cipher SpoC, the cards and the listing.
+"""A reference of the permutations, the cipher SpoC, sealers, the cards and the listing.
 
 Written from docs/ alone and meant to be read beside them. It is slow and makes
 no claim to be safe against someone who watches its timing.
@@ -10,6 +10,7 @@ place. A refusal is raised as `Refused`, which holds a `Fault`.
 from __future__ import annotations
 
 from abc import ABC, abstractmethod
+from contextlib import contextmanager
 from dataclasses import dataclass, replace
 from enum import IntEnum
 from typing import Callable, Iterator, NoReturn, Optional, Sequence
@@ -31,7 +32,7 @@ class Number(IntEnum):
     MEDIUM_SHORT = 9
     BYTES_MISSING = 10
     MARK_WRONG = 11
-    OTHER_SUITE = 12
+    OTHER_SEALER = 12
     KIND_UNKNOWN = 13
     END_WRONG = 14
     BYTES_LEFT = 15
@@ -356,62 +357,133 @@ def take(state: bytes, where: Sequence[int]) -> bytes:
     return bytes(state[place] for place in where)
 
 
+def after_data(suite: Suite, key: bytes, nonce: bytes, data: bytes,
+               control: Iterator[int]) -> bytes:
+    """The state that the message begins from."""
+    forward = suite.permutation.forward
+    state = suite.start(key, nonce)
+    state = forward(masked(suite, state, bytes(suite.rate), next(control)))
+    for block in cut(data, suite.rate):
+        state = forward(masked(suite, state, block, next(control)))
+    return state
+
+
 def crypt(suite: Suite, key: bytes, nonce: bytes, data: bytes, text: bytes,
           opening: bool) -> tuple[bytes, bytes]:
     """Turn message into ciphertext, or back when opening; give it and the tag."""
     # The lengths alone fix the control bytes, so the ciphertext serves as well.
     control = iter(control_bytes(data, text, suite.rate))
-    forward = suite.permutation.forward
-
-    state = suite.start(key, nonce)
-    state = forward(masked(suite, state, bytes(suite.rate), next(control)))
-    for block in cut(data, suite.rate):
-        state = forward(masked(suite, state, block, next(control)))
+    state = after_data(suite, key, nonce, data, control)
     out = bytearray()
     for block in cut(text, suite.rate):
         other = xor(block, take(state, suite.rate_places))
         out += other
         message = other if opening else block
-        state = forward(masked(suite, state, message, next(control)))
+        state = suite.permutation.forward(masked(suite, state, message, next(control)))
     return bytes(out), take(state, suite.masked_places)
 
 
-# Seal and open
+# Sealers
 
 MOST_BYTES = 65535
+SCRATCH_BYTES = 16
 
 
-def ask_lengths(suite: Suite, key: bytes, nonce: bytes, data: bytes, text: bytes,
-                out: bytes, tag: bytes) -> None:
-    """The five questions that seal and open both ask."""
-    if len(key) != KEY_BYTES:
-        refuse(Number.KEY_LENGTH, Layer.CIPHER)
-    if len(nonce) != NONCE_BYTES:
-        refuse(Number.NONCE_LENGTH, Layer.CIPHER)
-    if len(data) > MOST_BYTES or len(text) > MOST_BYTES:
-        refuse(Number.TOO_LONG, Layer.CIPHER)
-    if len(out) < len(text):
-        refuse(Number.ROOM_SHORT, Layer.CIPHER)
-    if len(tag) != suite.rate:
-        refuse(Number.TAG_LENGTH, Layer.CIPHER)
+class Sealer(ABC):
+    """A cipher that cards are sealed with; its tags have `width` bytes.
+
+    A sealer says what seal, open and test come to once the lengths are right.
+    """
+
+    version: int
+    width: int
+
+    @abstractmethod
+    def sealed(self, key: bytes, nonce: bytes, data: bytes, message: bytes) -> tuple[bytes, bytes]:
+        """Ciphertext and tag of a message."""
+
+    @abstractmethod
+    def opened(self, key: bytes, nonce: bytes, data: bytes, ciphertext: bytes,
+               tag: bytes) -> Optional[bytes]:
+        """The message, or None if the tag disagrees."""
+
+    @abstractmethod
+    def tested(self, key: bytes, nonce: bytes, data: bytes, ciphertext: bytes,
+               scratch: bytearray, tag: bytes) -> bool:
+        """Does the tag agree? Each block is opened over the last one, in the first 16 bytes."""
+
+    def seal(self, key: bytes, nonce: bytes, data: bytes, message: bytes,
+             out: bytearray, tag: bytearray) -> None:
+        """Put the ciphertext at the head of `out`, and the tag into `tag`."""
+        self._ask_lengths(key, nonce, data, message, len(message), out, tag)
+        out[:len(message)], tag[:] = self.sealed(key, nonce, data, message)
+
+    def open(self, key: bytes, nonce: bytes, data: bytes, ciphertext: bytes,
+             out: bytearray, tag: bytes) -> None:
+        """Put the message at the head of `out`, or zeros if the tag disagrees."""
+        self._ask_lengths(key, nonce, data, ciphertext, len(ciphertext), out, tag)
+        message = self.opened(key, nonce, data, ciphertext, tag)
+        out[:len(ciphertext)] = bytes(len(ciphertext)) if message is None else message
+        if message is None:
+            refuse(Number.TAG_DISAGREES, Layer.CIPHER)
+
+    def test(self, key: bytes, nonce: bytes, data: bytes, ciphertext: bytes,
+             scratch: bytearray, tag: bytes) -> None:
+        """Ask all that open asks, with no room for the message; wipe the first 16 bytes."""
+        self._ask_lengths(key, nonce, data, ciphertext, SCRATCH_BYTES, scratch, tag)
+        agrees = self.tested(key, nonce, data, ciphertext, scratch, tag)
+        scratch[:SCRATCH_BYTES] = bytes(SCRATCH_BYTES)
+        if not agrees:
+            refuse(Number.TAG_DISAGREES, Layer.CIPHER)
+
+    def _ask_lengths(self, key: bytes, nonce: bytes, data: bytes, text: bytes,
+                     room: int, buffer: bytes, tag: bytes) -> None:
+        """The five questions that are about lengths; `room` is what the buffer is to have."""
+        if len(key) != KEY_BYTES:
+            refuse(Number.KEY_LENGTH, Layer.CIPHER)
+        if len(nonce) != NONCE_BYTES:
+            refuse(Number.NONCE_LENGTH, Layer.CIPHER)
+        if len(data) > MOST_BYTES or len(text) > MOST_BYTES:
+            refuse(Number.TOO_LONG, Layer.CIPHER)
+        if len(buffer) < room:
+            refuse(Number.ROOM_SHORT, Layer.CIPHER)
+        if len(tag) != self.width:
+            refuse(Number.TAG_LENGTH, Layer.CIPHER)
 
 
-def seal(suite: Suite, key: bytes, nonce: bytes, data: bytes, message: bytes,
-         out: bytearray, tag: bytearray) -> None:
-    """Put the ciphertext at the head of `out`, and the tag into `tag`."""
-    ask_lengths(suite, key, nonce, data, message, out, tag)
-    out[:len(message)], tag[:] = crypt(suite, key, nonce, data, message, opening=False)
+class Spoc(Sealer):
+    """SpoC over a suite."""
+
+    def __init__(self, suite: Suite):
+        self.suite = suite
+        self.name = suite.name
+        self.version = suite.version
+        self.width = suite.rate
+
+    def sealed(self, key: bytes, nonce: bytes, data: bytes, message: bytes) -> tuple[bytes, bytes]:
+        return crypt(self.suite, key, nonce, data, message, opening=False)
+
+    def opened(self, key: bytes, nonce: bytes, data: bytes, ciphertext: bytes,
+               tag: bytes) -> Optional[bytes]:
+        message, right_tag = crypt(self.suite, key, nonce, data, ciphertext, opening=True)
+        return message if right_tag == tag else None
+
+    def tested(self, key: bytes, nonce: bytes, data: bytes, ciphertext: bytes,
+               scratch: bytearray, tag: bytes) -> bool:
+        suite = self.suite
+        control = iter(control_bytes(data, ciphertext, suite.rate))
+        state = after_data(suite, key, nonce, data, control)
+        for block in cut(ciphertext, suite.rate):
+            length = len(block)
+            scratch[:length] = xor(block, take(state, suite.rate_places))
+            message = bytes(scratch[:length])
+            state = suite.permutation.forward(masked(suite, state, message, next(control)))
+        return take(state, suite.masked_places) == tag
 
 
-def open_(suite: Suite, key: bytes, nonce: bytes, data: bytes, ciphertext: bytes,
-          out: bytearray, tag: bytes) -> None:
-    """Put the message at the head of `out`, or zeros if the tag disagrees."""
-    ask_lengths(suite, key, nonce, data, ciphertext, out, tag)
-    message, right_tag = crypt(suite, key, nonce, data, ciphertext, opening=True)
-    if right_tag != tag:
-        out[:len(ciphertext)] = bytes(len(ciphertext))
-        refuse(Number.TAG_DISAGREES, Layer.CIPHER)
-    out[:len(ciphertext)] = message
+SPOC64_SEALER, SPOC128_SEALER, BENCH_SEALER = Spoc(SPOC64), Spoc(SPOC128), Spoc(BENCH)
+
+SEALERS = {sealer.version: sealer for sealer in (SPOC64_SEALER, SPOC128_SEALER, BENCH_SEALER)}
 
 
 # The card's bytes
@@ -459,23 +531,23 @@ def record_nonce(header: bytes, record: int) -> bytes:
     return header[5:13] + record.to_bytes(8, "big")
 
 
-def sealed_record(suite: Suite, key: bytes, header: bytes, record: int,
+def sealed_record(sealer: Sealer, key: bytes, header: bytes, record: int,
                   head: Head, body: bytes) -> bytes:
     """A record's bytes: head, sealed body and tag."""
-    out, tag = bytearray(len(body)), bytearray(suite.rate)
+    out, tag = bytearray(len(body)), bytearray(sealer.width)
     data = header + head.to_bytes()
-    seal(suite, key, record_nonce(header, record), data, body, out, tag)
+    sealer.seal(key, record_nonce(header, record), data, body, out, tag)
     return head.to_bytes() + bytes(out) + bytes(tag)
 
 
-def record_size(suite: Suite, body_length: int) -> int:
+def record_size(sealer: Sealer, body_length: int) -> int:
     """How many bytes a record has."""
-    return HEAD_BYTES + body_length + suite.rate
+    return HEAD_BYTES + body_length + sealer.width
 
 
-def end_size(suite: Suite) -> int:
+def end_size(sealer: Sealer) -> int:
     """How many bytes the end record has."""
-    return record_size(suite, 0)
+    return record_size(sealer, 0)
 
 
 # The writer
@@ -483,8 +555,8 @@ def end_size(suite: Suite) -> int:
 class Writer:
     """Writes one card; the medium is handed to each call."""
 
-    def __init__(self, suite: Suite, key: bytes, header: bytes):
-        self.suite = suite
+    def __init__(self, sealer: Sealer, key: bytes, header: bytes):
+        self.sealer = sealer
         self.key = key
         self.header = header
         self.sheets = 0
@@ -492,15 +564,15 @@ class Writer:
         self.closed = False
 
     @classmethod
-    def start(cls, suite: Suite, key: bytes, number: int, medium: bytearray) -> Writer:
+    def start(cls, sealer: Sealer, key: bytes, number: int, medium: bytearray) -> Writer:
         """Write the header and give a writer."""
         if len(key) != KEY_BYTES:
             refuse(Number.KEY_LENGTH, Layer.CIPHER)
-        if len(medium) < HEADER_BYTES + end_size(suite):
+        if len(medium) < HEADER_BYTES + end_size(sealer):
             refuse(Number.MEDIUM_SHORT, Layer.CARD)
-        header = header_bytes(suite.version, number)
+        header = header_bytes(sealer.version, number)
         medium[:HEADER_BYTES] = header
-        return cls(suite, key, header)
+        return cls(sealer, key, header)
 
     def append(self, medium: bytearray, cell: int, edition: int, body: bytes) -> int:
         """Write a sheet record; give its number."""
@@ -510,7 +582,7 @@ class Writer:
         if len(body) > MOST_BODY:
             self._refuse(Number.BODY_LONG, Layer.RECORD)
         # Room for the end record is asked for too, and left alone.
-        needed = record_size(self.suite, len(body)) + end_size(self.suite)
+        needed = record_size(self.sealer, len(body)) + end_size(self.sealer)
         if self.place + needed > len(medium):
             self._refuse(Number.MEDIUM_SHORT, Layer.RECORD)
         self._put(medium, Head(SHEET, cell, edition, len(body)), body)
@@ -520,14 +592,14 @@ class Writer:
     def close(self, medium: bytearray) -> int:
         """Write the end record; give the card's length."""
         self._ask_open()
-        if self.place + end_size(self.suite) > len(medium):
+        if self.place + end_size(self.sealer) > len(medium):
             self._refuse(Number.MEDIUM_SHORT, Layer.CARD)
         self._put(medium, end_head(self.sheets), b"")
         self.closed = True
         return self.place
 
     def _put(self, medium: bytearray, head: Head, body: bytes) -> None:
-        record = sealed_record(self.suite, self.key, self.header, self.sheets, head, body)
+        record = sealed_record(self.sealer, self.key, self.header, self.sheets, head, body)
         medium[self.place:self.place + len(record)] = record
         self.place += len(record)
 
@@ -546,9 +618,9 @@ class Card:
     """A checked card. Made with no arguments, it is the empty card."""
 
     data: bytes = b""
-    key: bytes = b""
+    key: bytes = bytes(KEY_BYTES)
     version: int = 0
-    rate: int = 0
+    width: int = 0
     count: int = 0
 
 
@@ -561,18 +633,18 @@ class Sheet:
     length: int
 
 
-def check(suite: Suite, key: bytes, data: bytes, scratch: bytearray) -> Card:
+def check(sealer: Sealer, key: bytes, data: bytes, scratch: bytearray) -> Card:
     """Ask every question of a card's bytes; give the card."""
     if len(key) != KEY_BYTES:
         refuse(Number.KEY_LENGTH, Layer.CIPHER)
-    if len(scratch) < MOST_BODY:
+    if len(scratch) < SCRATCH_BYTES:
         refuse(Number.ROOM_SHORT, Layer.CIPHER)
     try:
-        check_header(suite, data)
-        count = check_records(suite, key, data, scratch)
+        check_header(sealer, data)
+        count = check_records(sealer, key, data, scratch)
     finally:
-        scratch[:MOST_BODY] = bytes(MOST_BODY)
-    return Card(data, key, suite.version, suite.rate, count)
+        scratch[:SCRATCH_BYTES] = bytes(SCRATCH_BYTES)
+    return Card(data, key, sealer.version, sealer.width, count)
 
 
 def check_mark(data: bytes) -> None:
@@ -588,20 +660,20 @@ def version_of(data: bytes) -> int:
     return int.from_bytes(data[3:5], "big")
 
 
-def check_header(suite: Suite, data: bytes) -> None:
+def check_header(sealer: Sealer, data: bytes) -> None:
     """The questions on the first 13 bytes."""
     check_mark(data)
-    if version_of(data) != suite.version:
-        refuse(Number.OTHER_SUITE, Layer.CARD, place=3)
+    if version_of(data) != sealer.version:
+        refuse(Number.OTHER_SEALER, Layer.CARD, place=3)
 
 
-def check_records(suite: Suite, key: bytes, data: bytes, scratch: bytearray) -> int:
+def check_records(sealer: Sealer, key: bytes, data: bytes, scratch: bytearray) -> int:
     """The questions on all records; give how many sheets there are."""
     record, place = 0, HEADER_BYTES
     while True:
         head = check_head(data, record, place)
-        check_seal(suite, key, data, record, place, head, scratch)
-        place += record_size(suite, head.length)
+        check_seal(sealer, key, data, record, place, head, scratch)
+        place += record_size(sealer, head.length)
         if head.kind == END:
             break
         record += 1
@@ -627,25 +699,32 @@ def check_head(data: bytes, record: int, place: int) -> Head:
     return head
 
 
-def check_seal(suite: Suite, key: bytes, data: bytes, record: int, place: int,
+def check_seal(sealer: Sealer, key: bytes, data: bytes, record: int, place: int,
                head: Head, scratch: bytearray) -> None:
     """Are body and tag there, and does the tag agree?"""
-    if place + record_size(suite, head.length) > len(data):
+    if place + record_size(sealer, head.length) > len(data):
         refuse(Number.BYTES_MISSING, Layer.RECORD, record, place + HEAD_BYTES)
-    tag_place = place + HEAD_BYTES + head.length
-    open_record(suite, key, data, record, place, head, scratch, fault_place=tag_place)
+    nonce, sealed_data, body, tag = sealed_parts(sealer, data, record, place, head)
+    with placed(record, place + HEAD_BYTES + head.length):
+        sealer.test(key, nonce, sealed_data, body, scratch, tag)
 
 
-def open_record(suite: Suite, key: bytes, data: bytes, record: int, place: int,
-                head: Head, out: bytearray, fault_place: int) -> None:
-    """Open a record whose bytes are all there."""
+def sealed_parts(sealer: Sealer, data: bytes, record: int, place: int,
+                 head: Head) -> tuple[bytes, bytes, bytes, bytes]:
+    """Nonce, data, sealed body and tag of a record whose bytes are all there."""
     header, body_place = data[:HEADER_BYTES], place + HEAD_BYTES
     tag_place = body_place + head.length
+    return (record_nonce(header, record), header + head.to_bytes(),
+            data[body_place:tag_place], data[tag_place:tag_place + sealer.width])
+
+
+@contextmanager
+def placed(record: int, place: int) -> Iterator[None]:
+    """Put record and place into the sealer's refusal."""
     try:
-        open_(suite, key, record_nonce(header, record), header + head.to_bytes(),
-              data[body_place:tag_place], out, data[tag_place:tag_place + suite.rate])
+        yield
     except Refused as refused:
-        raise Refused(replace(refused.fault, record=record, place=fault_place)) from None
+        raise Refused(replace(refused.fault, record=record, place=place)) from None
 
 
 def sheet_heads(card: Card) -> Iterator[tuple[int, Head]]:
@@ -654,20 +733,22 @@ def sheet_heads(card: Card) -> Iterator[tuple[int, Head]]:
     for _ in range(card.count):
         head = Head.read(card.data[place:place + HEAD_BYTES])
         yield place, head
-        place += HEAD_BYTES + head.length + card.rate
+        place += HEAD_BYTES + head.length + card.width
 
 
-def sheet(suite: Suite, card: Card, i: int, buffer: bytearray) -> Sheet:
+def sheet(sealer: Sealer, card: Card, i: int, buffer: bytearray) -> Sheet:
     """Put sheet i's body at the head of the buffer, and say what it is."""
-    if (card.version, card.rate) != (suite.version, suite.rate):
-        refuse(Number.OTHER_SUITE, Layer.CARD, i)
+    if (card.version, card.width) != (sealer.version, sealer.width):
+        refuse(Number.OTHER_SEALER, Layer.CARD, i)
     if i >= card.count:
         refuse(Number.NO_SUCH_SHEET, Layer.CARD, i)
     place, head = list(sheet_heads(card))[i]
     body_place = place + HEAD_BYTES
     if len(buffer) < head.length:
         refuse(Number.ROOM_SHORT, Layer.CIPHER, i, body_place)
-    open_record(suite, card.key, card.data, i, place, head, buffer, fault_place=body_place)
+    nonce, sealed_data, body, tag = sealed_parts(sealer, card.data, i, place, head)
+    with placed(i, body_place):
+        sealer.open(card.key, nonce, sealed_data, body, buffer, tag)
     return Sheet(head.cell, head.edition, head.length)
 
 
@@ -689,25 +770,25 @@ MOST_LISTED = KEY_BYTES + 65536
 def listing(text: bytes) -> str:
     """The lister's text for its input: a key, and then a card."""
     try:
-        suite, card = listed_card(text)
+        sealer, card = listed_card(text)
     except Refused as refused:
         return f"{refused.fault}\n"
     number = int.from_bytes(card.data[5:13], "big")
-    lines = [f"card {number} version {suite.version} sheets {card.count}\n"]
+    lines = [f"card {number} version {sealer.version} sheets {card.count}\n"]
     for i, (_, head) in enumerate(sheet_heads(card)):
         lines.append(f"sheet {i} cell {head.cell} edition {head.edition} length {head.length}\n")
     return "".join(lines)
 
 
-def listed_card(text: bytes) -> tuple[Suite, Card]:
-    """The lister's questions; give the suite and the card."""
+def listed_card(text: bytes) -> tuple[Sealer, Card]:
+    """The lister's questions; give the sealer and the card."""
     if len(text) < KEY_BYTES:
         refuse(Number.KEY_LENGTH, Layer.CIPHER)
     if len(text) > MOST_LISTED:
         refuse(Number.TOO_LONG, Layer.CIPHER)
     key, data = text[:KEY_BYTES], text[KEY_BYTES:]
     check_mark(data)
-    suite = SUITES.get(version_of(data))
-    if suite is None:
-        refuse(Number.OTHER_SUITE, Layer.CARD, place=3)
-    return suite, check(suite, key, data, bytearray(MOST_BODY))
+    sealer = SEALERS.get(version_of(data))
+    if sealer is None:
+        refuse(Number.OTHER_SEALER, Layer.CARD, place=3)
+    return sealer, check(sealer, key, data, bytearray(SCRATCH_BYTES))

@@ -8,12 +8,11 @@ none), a tab, and the text with \\n for each line feed.
 from __future__ import annotations
 
 import sys
-from copy import deepcopy
 from pathlib import Path
 from typing import Iterator
 
-from dukkovil import BENCH, KEY_BYTES, MOST_BODY, MOST_LISTED, SUITES, Suite, listing
-from make_scripts import Draft, Script, all_breaks, card_size, changed, draft
+from dukkovil import BENCH_SEALER, KEY_BYTES, MOST_BODY, MOST_LISTED, SEALERS, Sealer, listing
+from make_scripts import Draft, Script, all_breaks, broken_card, card_size, changed, draft
 
 
 def listed(card: Draft) -> bytes:
@@ -23,11 +22,11 @@ def listed(card: Draft) -> bytes:
 
 def inputs(script: Script) -> Iterator[bytes]:
     yield from short_inputs(script)
-    for suite in SUITES.values():
-        yield from right_cards(script, suite)
-        yield from wrong_cards(script, suite)
-        yield from unknown_versions(script, suite)
-    yield listed(draft(script, BENCH, [0] * 512))
+    for sealer in SEALERS.values():
+        yield from right_cards(script, sealer)
+        yield from wrong_cards(script, sealer)
+        yield from unknown_versions(script, sealer)
+    yield listed(draft(script, BENCH_SEALER, [0] * 512))
     yield from long_inputs(script)
 
 
@@ -35,29 +34,29 @@ def short_inputs(script: Script) -> Iterator[bytes]:
     """Fewer bytes than a key has, and a key with little or nothing after it."""
     for length in (0, 1, 2, 8, 14, 15, 16, 17):
         yield script.some_bytes(length)
-    text = listed(draft(script, BENCH, (2,)))
+    text = listed(draft(script, BENCH_SEALER, (2,)))
     for length in range(KEY_BYTES - 1, len(text) + 1):
         yield text[:length]
 
 
-def right_cards(script: Script, suite: Suite) -> Iterator[bytes]:
+def right_cards(script: Script, sealer: Sealer) -> Iterator[bytes]:
     """Cards with no sheet, one and several, with small numbers and the greatest."""
-    yield listed(draft(script, suite, ()))
-    yield listed(draft(script, suite, (0,)))
-    card = draft(script, suite, (1, 0))
+    yield listed(draft(script, sealer, ()))
+    yield listed(draft(script, sealer, (0,)))
+    card = draft(script, sealer, (1, 0))
     card.number = (1 << 64) - 1
     card.records[0].cell, card.records[0].edition = (1 << 32) - 1, 65535
     card.records[1].cell, card.records[1].edition = 0, 0
     yield listed(card)
-    yield listed(draft(script, suite, (MOST_BODY,)))
+    yield listed(draft(script, sealer, (MOST_BODY,)))
     for _ in range(6 * script.count):
         lengths = [script.random.randrange(30) for _ in range(script.random.randrange(12))]
-        yield listed(draft(script, suite, lengths))
+        yield listed(draft(script, sealer, lengths))
 
 
-def wrong_cards(script: Script, suite: Suite) -> Iterator[bytes]:
+def wrong_cards(script: Script, sealer: Sealer) -> Iterator[bytes]:
     """A changed byte, a cut, a wrong key, and everything that check asks for."""
-    card = draft(script, suite, (4, 0))
+    card = draft(script, sealer, (4, 0))
     text = listed(card)
     for _ in range(12 * script.count):
         place = script.random.randrange(len(text))
@@ -65,27 +64,25 @@ def wrong_cards(script: Script, suite: Suite) -> Iterator[bytes]:
         yield text[:script.random.randrange(KEY_BYTES, len(text))]
     yield text + b"\0"
     yield script.some_bytes(KEY_BYTES) + card.to_bytes()
-    for break_one in script.random.sample(all_breaks(script, suite), 20):
-        wrong = deepcopy(card)
-        break_one(wrong)
-        yield listed(wrong)
+    for break_one in script.random.sample(all_breaks(script, sealer), 20):
+        yield listed(broken_card(card, break_one))
 
 
-def unknown_versions(script: Script, suite: Suite) -> Iterator[bytes]:
+def unknown_versions(script: Script, sealer: Sealer) -> Iterator[bytes]:
     """Versions of no suite, and of the other ones."""
-    card = draft(script, suite, (2,))
-    for version in (0, 1, 2, 3, 8, 9, 10, 256 * suite.version, 256 + suite.version, 65535):
-        if version != suite.version:
+    card = draft(script, sealer, (2,))
+    for version in (0, 1, 2, 3, 8, 9, 10, 256 * sealer.version, 256 + sealer.version, 65535):
+        if version != sealer.version:
             card.version = version
             yield listed(card)
 
 
 def long_inputs(script: Script) -> Iterator[bytes]:
     """Inputs of 65,552 bytes, the most there may be, and of one more."""
-    for suite in SUITES.values() if script.count > 1 else (BENCH,):
+    for sealer in SEALERS.values() if script.count > 1 else (BENCH_SEALER,):
         lengths = [MOST_BODY] * 15
-        lengths.append(MOST_LISTED - KEY_BYTES - card_size(suite, [*lengths, 0]))
-        text = listed(draft(script, suite, lengths))
+        lengths.append(MOST_LISTED - KEY_BYTES - card_size(sealer, [*lengths, 0]))
+        text = listed(draft(script, sealer, lengths))
         assert len(text) == MOST_LISTED
         yield text
         yield text + b"\0"

@@ -13,8 +13,9 @@ from dataclasses import dataclass, field
 from itertools import combinations
 from typing import Callable, Iterable, Iterator, Optional, Union
 
-from dukkovil import (BENCH, HEADER_BYTES, HEAD_BYTES, MARK, MOST_BODY, MOST_SHEETS, PERMUTATIONS,
-                      SUITES, Head, Suite, crypt, end_size, record_size)
+from dukkovil import (BENCH_SEALER, HEADER_BYTES, HEAD_BYTES, MARK, MOST_BODY, MOST_SHEETS,
+                      PERMUTATIONS, SCRATCH_BYTES, SEALERS, SUITES, Head, Sealer, Suite, crypt,
+                      end_size, record_size)
 
 Word = Union[str, int, bytes]
 
@@ -239,7 +240,15 @@ def seal_into(script: Script, case: Sealed, broken: set[int], room: Optional[int
 
 def open_into(script: Script, case: Sealed, broken: set[int], room: Optional[int] = None) -> None:
     """Add an open-into with some questions broken."""
-    suite, words = case.suite, case.opening()
+    words = broken_opening(script, case, broken)
+    if room is None:
+        room = some_room(script, len(case.message), 4 in broken)
+    script.call("open-into", case.suite.version, *words.values(), room)
+
+
+def broken_opening(script: Script, case: Sealed, broken: set[int]) -> dict[str, bytes]:
+    """What open takes, with some questions broken."""
+    words = case.opening()
     if 1 in broken:
         words["key"] = script.wrong_secret()
     if 2 in broken:
@@ -247,10 +256,8 @@ def open_into(script: Script, case: Sealed, broken: set[int], room: Optional[int
     if 6 in broken:
         words["tag"] = script.changed_bit(words["tag"])
     if 5 in broken:
-        words["tag"] = (words["tag"] * 3)[:wrong_width(script, suite)]
-    if room is None:
-        room = some_room(script, len(case.message), 4 in broken)
-    script.call("open-into", suite.version, *words.values(), room)
+        words["tag"] = (words["tag"] * 3)[:wrong_width(script, case.suite)]
+    return words
 
 
 def some_room(script: Script, length: int, short: bool) -> int:
@@ -280,6 +287,144 @@ def cipher_greatest(script: Script) -> None:
         script.call("seal", 2, key, nonce, long[1:], long)
 
 
+# Test
+
+ROOMS = (0, 1, 15, 16, 17, 64, 4096)
+
+
+def tests(script: Script) -> None:
+    for suite in SUITES.values():
+        script.note(f"{suite.name}: rooms, at every answer")
+        test_rooms(script, suite)
+        script.note(f"{suite.name}: broken questions")
+        test_questions(script, suite)
+        script.note(f"{suite.name}: lengths")
+        test_lengths(script, suite)
+        script.note(f"{suite.name}: each byte changed")
+        test_bytes(script, suite)
+        script.note(f"{suite.name}: the last block changed")
+        test_last_block(script, suite)
+        script.note(f"{suite.name}: a bit changed")
+        test_changes(script, suite)
+    script.note("the greatest length and one more")
+    test_greatest(script)
+
+
+def test(script: Script, case: Sealed, room: int = SCRATCH_BYTES, **changes: bytes) -> None:
+    """Add a test of what was sealed, with some of it changed."""
+    words = {**case.opening(), **changes}
+    script.call("test", case.suite.version, *words.values(), room)
+
+
+def test_broken(script: Script, case: Sealed, broken: set[int], room: int) -> None:
+    """Add a test with some questions broken, but for 4: that is the room's."""
+    test(script, case, room, **broken_opening(script, case, broken))
+
+
+def some_sealed(script: Script, suite: Suite) -> Sealed:
+    """A case with a little data and a message that is not empty."""
+    data, message = script.random.randrange(8), script.random.randrange(1, suite.rate + 4)
+    return Sealed.random(script, suite, data, message)
+
+
+def test_rooms(script: Script, suite: Suite) -> None:
+    """Scratches of all lengths, with nothing broken and with each question."""
+    for room in ROOMS:
+        for broken in (set(), {1}, {2}, {5}, {6}):
+            test_broken(script, some_sealed(script, suite), broken, room)
+
+
+def test_questions(script: Script, suite: Suite) -> None:
+    """Each pair of broken questions, and every later one broken with the first."""
+    for broken in (*singles_and_pairs((1, 2, 4, 5, 6)), {1, 2, 4, 5, 6}, {2, 4, 5, 6}, {4, 5, 6}):
+        room = script.random.choice((0, 8, 15) if 4 in broken else (16, 17, 30))
+        test_broken(script, some_sealed(script, suite), broken, room)
+    # A scratch that is long enough for the message, and not for 16 bytes.
+    for length in (0, 1, 8):
+        test(script, Sealed.random(script, suite, 3, length), room=15)
+    # A tag of another suite's width.
+    for length in {8, 16} - {suite.rate}:
+        test(script, some_sealed(script, suite), tag=script.some_bytes(length))
+
+
+def test_lengths(script: Script, suite: Suite) -> None:
+    """No block, one and several, short and full; and one that is long."""
+    r = suite.rate
+    lengths = (0, 1, r - 1, r, r + 1, 2 * r, 3 * r + 5)
+    for i, length in enumerate(lengths):
+        for data in (0, lengths[1:][(i + 2) % 6]):
+            case = Sealed.random(script, suite, data, length)
+            test(script, case, script.random.choice((16, 17, 40)))
+            test(script, case, tag=script.changed_bit(case.opening()["tag"]))
+    for _ in range(5 * script.count):
+        data, message = (script.random.randrange(3 * r) for _ in range(2))
+        test(script, Sealed.random(script, suite, data, message))
+    case = Sealed.random(script, suite, 5, 4096)
+    ciphertext = case.opening()["ciphertext"]
+    test(script, case)
+    test(script, case, ciphertext=changed(ciphertext, 4095, 0x40))
+    if script.count > 1:
+        for length in (4095, 4097):
+            test(script, Sealed.random(script, suite, 4096, length), 4096)
+
+
+def test_bytes(script: Script, suite: Suite) -> None:
+    """Each byte of a ciphertext of three blocks, and each of the tag."""
+    case = Sealed.random(script, suite, 2, 2 * suite.rate + 3)
+    words = case.opening()
+    test(script, case)
+    for name in ("ciphertext", "tag"):
+        for place in range(len(words[name])):
+            difference = script.random.randrange(1, 256)
+            test(script, case, **{name: changed(words[name], place, difference)})
+
+
+def test_last_block(script: Script, suite: Suite) -> None:
+    """A last block that is changed as a whole, exchanged, cut or longer."""
+    r = suite.rate
+    for length in (1, r, r + 1, 2 * r):
+        case = Sealed.random(script, suite, 1, length)
+        ciphertext = case.opening()["ciphertext"]
+        last = (length - 1) // r * r
+        flipped = bytes(byte ^ 0xFF for byte in ciphertext[last:])
+        test(script, case, ciphertext=ciphertext[:last] + flipped)
+        test(script, case, ciphertext=ciphertext[:-1])
+        test(script, case, ciphertext=ciphertext + b"\0")
+        test(script, case, ciphertext=ciphertext[:last])
+    case = Sealed.random(script, suite, 0, 2 * r)
+    ciphertext = case.opening()["ciphertext"]
+    test(script, case, ciphertext=ciphertext[r:] + ciphertext[:r])
+    # A full block that ends in 80 differs from the one a byte shorter in its control byte alone.
+    ends = Sealed(suite, case.key, case.nonce, b"", case.message[:-1] + b"\x80")
+    test(script, ends)
+    test(script, ends, ciphertext=ends.opening()["ciphertext"][:-1])
+
+
+def test_changes(script: Script, suite: Suite) -> None:
+    """One bit changed in each of the arguments."""
+    for _ in range(2 * script.count):
+        data, message = (script.random.randrange(1, 2 * suite.rate) for _ in range(2))
+        case = Sealed.random(script, suite, data, message)
+        for name, value in case.opening().items():
+            test(script, case, **{name: script.changed_bit(value)})
+
+
+def test_greatest(script: Script) -> None:
+    """65,535 bytes and 65,536; these lines are long."""
+    long = script.some_bytes(65536)
+    for suite in SUITES.values():
+        case = Sealed.random(script, suite, 1, 1)
+        test(script, case, data=long)
+        test(script, case, 15, ciphertext=long)
+        if script.count > 1:
+            test(script, case, 16, ciphertext=long, tag=b"short")
+            test(script, case, 16, key=case.key[1:], ciphertext=long)
+            test(script, case, 16, nonce=case.nonce[1:], data=long)
+            test(script, case, 16, data=long[1:])
+            test(script, case, 16, ciphertext=long[1:])
+    test(script, Sealed(SUITES[9], case.key, case.nonce, long[:3], long[1:]))
+
+
 # Cards
 
 @dataclass
@@ -302,7 +447,7 @@ class DraftRecord:
 class Draft:
     """A card that may be wrong in any way, sealed as its heads say."""
 
-    suite: Suite
+    sealer: Sealer
     key: bytes
     number: int
     records: list[DraftRecord]
@@ -312,15 +457,14 @@ class Draft:
     more: bytes = b""
 
     def header(self) -> bytes:
-        version = self.suite.version if self.version is None else self.version
+        version = self.sealer.version if self.version is None else self.version
         return self.mark + version.to_bytes(2, "big") + self.number.to_bytes(8, "big")
 
     def record_bytes(self, i: int) -> bytes:
         """Record i, sealed under its own head and number."""
         record, header = self.records[i], self.header()
         nonce = header[5:] + i.to_bytes(8, "big")
-        body, tag = crypt(self.suite, self.key, nonce, header + record.head(), record.body,
-                          opening=False)
+        body, tag = self.sealer.sealed(self.key, nonce, header + record.head(), record.body)
         if record.wrong_tag:
             tag = changed(tag, 7 * i % len(tag), 1 << i % 8)
         return record.head() + body + tag
@@ -331,52 +475,52 @@ class Draft:
 
     def place(self, i: int) -> int:
         """Where record i begins."""
-        sizes = (record_size(self.suite, len(record.body)) for record in self.records[:i])
+        sizes = (record_size(self.sealer, len(record.body)) for record in self.records[:i])
         return HEADER_BYTES + sum(sizes)
 
 
-def draft(script: Script, suite: Suite, lengths: Iterable[int]) -> Draft:
+def draft(script: Script, sealer: Sealer, lengths: Iterable[int]) -> Draft:
     """A right card with sheets of these lengths."""
     records = [DraftRecord(1, script.random.getrandbits(32), script.random.getrandbits(16),
                            script.some_bytes(length)) for length in lengths]
     records.append(DraftRecord(2, len(records), 0))
-    return Draft(suite, script.secret(), script.card_number(), records)
+    return Draft(sealer, script.secret(), script.card_number(), records)
 
 
 def check(script: Script, card: Draft, text: Optional[bytes] = None,
-          key: Optional[bytes] = None, scratch: int = MOST_BODY) -> None:
-    """Add a check of a draft, or of other bytes under its suite and key."""
+          key: Optional[bytes] = None, scratch: int = SCRATCH_BYTES) -> None:
+    """Add a check of a draft, or of other bytes under its sealer and key."""
     text = card.to_bytes() if text is None else text
-    script.call("check", card.suite.version, card.key if key is None else key, text, scratch)
+    script.call("check", card.sealer.version, card.key if key is None else key, text, scratch)
 
 
 def cards(script: Script) -> None:
-    for suite in SUITES.values():
-        script.note(f"{suite.name}: each byte, each cut")
-        cards_bytes(script, suite)
-        script.note(f"{suite.name}: keys and scratches")
-        cards_lengths(script, suite)
-        script.note(f"{suite.name}: one thing wrong")
-        cards_singles(script, suite)
-        script.note(f"{suite.name}: two things wrong")
-        cards_pairs(script, suite)
-        script.note(f"{suite.name}: records moved")
-        cards_moved(script, suite)
-        script.note(f"{suite.name}: random changes")
-        cards_random(script, suite)
-        script.note(f"{suite.name}: sheet")
-        cards_sheets(script, suite)
-        script.note(f"{suite.name}: find")
-        cards_finds(script, suite)
+    for sealer in SEALERS.values():
+        script.note(f"{sealer.name}: each byte, each cut")
+        cards_bytes(script, sealer)
+        script.note(f"{sealer.name}: keys and scratches")
+        cards_lengths(script, sealer)
+        script.note(f"{sealer.name}: one thing wrong")
+        cards_singles(script, sealer)
+        script.note(f"{sealer.name}: two things wrong")
+        cards_pairs(script, sealer)
+        script.note(f"{sealer.name}: records moved")
+        cards_moved(script, sealer)
+        script.note(f"{sealer.name}: random changes")
+        cards_random(script, sealer)
+        script.note(f"{sealer.name}: sheet")
+        cards_sheets(script, sealer)
+        script.note(f"{sealer.name}: find")
+        cards_finds(script, sealer)
     script.note("long bodies")
     cards_long(script)
     script.note("512 sheets")
     cards_full(script)
 
 
-def cards_bytes(script: Script, suite: Suite) -> None:
+def cards_bytes(script: Script, sealer: Sealer) -> None:
     """A small card with each byte changed, cut everywhere, and with bytes more."""
-    card = draft(script, suite, (3, 0, 2) if suite.rate == 8 else (3, 0))
+    card = draft(script, sealer, (3, 0, 2) if sealer.width == 8 else (3, 0))
     text = card.to_bytes()
     check(script, card)
     for place in range(len(text)):
@@ -387,31 +531,43 @@ def cards_bytes(script: Script, suite: Suite) -> None:
         check(script, card, text + more)
 
 
-def cards_lengths(script: Script, suite: Suite) -> None:
-    """Keys and scratches of all lengths, with a right card and a wrong one."""
-    card = draft(script, suite, (2,))
-    right, wrong = card.to_bytes(), card.to_bytes()[:-1]
-    if suite is BENCH:
-        keys = [card.key, b"", card.key[:1], card.key[:15], card.key + b"\0", card.key * 2]
-    else:
-        keys = [card.key, script.wrong_secret()]
-    for key in keys:
-        for scratch in (0, 1, 4095, 4096, 4097, 5000):
-            for text in (right, wrong):
-                check(script, card, text, key, scratch)
-    for text in (b"", b"SEA", right[:12], b"XEA" + right[3:]):
-        check(script, card, text, card.key, 4099)
-    check(script, card, right, script.some_bytes(16))
+SCRATCHES = (0, 1, 7, 8, 15, 16, 17, 4095, 4096, 5000)
+
+
+def cards_lengths(script: Script, sealer: Sealer) -> None:
+    """Scratches of all lengths at every answer of check, and keys of all lengths."""
+    card = draft(script, sealer, (1,))
+    text = card.to_bytes()
+    wrong_cards = [broken_card(card, break_one) for break_one in one_of_each(sealer)]
+    for scratch in SCRATCHES:
+        check(script, card, scratch=scratch)
+        check(script, card, key=script.wrong_secret(), scratch=scratch)
+        for wrong in wrong_cards:
+            check(script, wrong, scratch=scratch)
+    for key in (b"", card.key[:1], card.key[:15], card.key + b"\0", card.key * 2):
+        for scratch in (15, 16):
+            check(script, card, text, key, scratch)
+            check(script, card, text[:-1], key, scratch)
+    for wrong_text in (b"", b"SEA", text[:12], b"XEA" + text[3:]):
+        check(script, card, wrong_text, scratch=19)
+    check(script, card, text, script.some_bytes(16))
     # A bad key and a short scratch, each with everything that a card can have wrong.
-    card = draft(script, suite, BROKEN_LENGTHS)
-    for break_one in paired_breaks(script, suite)[::1 if suite is BENCH else 3]:
-        wrong_card = deepcopy(card)
-        break_one(wrong_card)
-        check(script, wrong_card, key=card.key[1:])
-        check(script, wrong_card, scratch=4095)
+    card = draft(script, sealer, BROKEN_LENGTHS)
+    for break_one in paired_breaks(script, sealer)[::1 if sealer is BENCH_SEALER else 3]:
+        wrong = broken_card(card, break_one)
+        check(script, wrong, key=card.key[1:])
+        check(script, wrong, scratch=15)
 
 
 Break = Callable[[Draft], None]
+
+
+def broken_card(card: Draft, *breaks: Break) -> Draft:
+    """The same card with some things wrong."""
+    wrong = deepcopy(card)
+    for break_one in breaks:
+        break_one(wrong)
+    return wrong
 
 
 def break_mark(mark: bytes) -> Break:
@@ -455,12 +611,12 @@ def break_more(more: bytes) -> Break:
 BROKEN_LENGTHS = (4, 0)  # the bodies of the card that is broken; record 2 is its end
 
 
-def all_breaks(script: Script, suite: Suite) -> list[Break]:
+def all_breaks(script: Script, sealer: Sealer) -> list[Break]:
     """Every single thing that can be wrong, at several places."""
     breaks = [break_mark(mark) for mark in (b"TEA", b"SAE", b"SEB", b"sea", b"\0\0\0")]
-    breaks += [break_version(version) for version in (0, 1, 2, 3, 8, 9, 10, 0x0100 * suite.version,
-                                                      0x0100 + suite.version, 0xFFFF)
-               if version != suite.version]
+    breaks += [break_version(version) for version in (0, 1, 2, 3, 8, 9, 10, 0x0100 * sealer.version,
+                                                      0x0100 + sealer.version, 0xFFFF)
+               if version != sealer.version]
     for i in range(3):
         breaks += [break_record(i, kind=kind) for kind in (0, 3, 255)]
         breaks += [break_record(i, kind=2 if i < 2 else 1), break_record(i, wrong_tag=True)]
@@ -474,25 +630,31 @@ def all_breaks(script: Script, suite: Suite) -> list[Break]:
     breaks += [break_record(2, length=length) for length in (1, 4096, 4097, 9999, 65535)]
     breaks += [break_record(2, cell=9, edition=9, length=9999)]
     breaks += [break_record(2, body=b"A"), break_record(2, body=b"A", length=0)]
-    breaks += [break_cut(0, 11), break_cut(0, 13), break_cut(2, 8 + suite.rate)]
+    breaks += [break_cut(0, 11), break_cut(0, 13), break_cut(2, 8 + sealer.width)]
     breaks += [break_short(length) for length in (0, 3, 5, 12, 13)]
     breaks += [break_more(script.some_bytes(length)) for length in (1, 2, 3, 40)]
     return breaks
 
 
-def cards_singles(script: Script, suite: Suite) -> None:
+def one_of_each(sealer: Sealer) -> list[Break]:
+    """A no to each question on a card of one sheet, but for a 513th."""
+    return [break_short(12), break_mark(b"SEE"), break_version(sealer.version + 1),
+            break_cut(1, 8), break_record(0, kind=3), break_record(0, length=4097),
+            break_record(1, edition=1), break_cut(0, 9), break_record(0, wrong_tag=True),
+            break_record(1, wrong_tag=True), break_more(b"\0")]
+
+
+def cards_singles(script: Script, sealer: Sealer) -> None:
     """One thing wrong, everything else sealed as it should be."""
-    card = draft(script, suite, BROKEN_LENGTHS)
-    for break_one in all_breaks(script, suite):
-        wrong = deepcopy(card)
-        break_one(wrong)
-        check(script, wrong)
+    card = draft(script, sealer, BROKEN_LENGTHS)
+    for break_one in all_breaks(script, sealer):
+        check(script, broken_card(card, break_one))
 
 
-def paired_breaks(script: Script, suite: Suite) -> list[Break]:
+def paired_breaks(script: Script, sealer: Sealer) -> list[Break]:
     """One or two of each question, for pairs."""
-    r = suite.rate
-    other = script.random.choice([v for v in (0, 1, 2, 3, 9) if v != suite.version])
+    r = sealer.width
+    other = script.random.choice([v for v in (0, 1, 2, 3, 9) if v != sealer.version])
     kind = script.random.choice((0, 3, 255))
     return [
         break_short(12), break_mark(b"SEE"), break_version(other),
@@ -507,23 +669,21 @@ def paired_breaks(script: Script, suite: Suite) -> list[Break]:
     ]
 
 
-def cards_pairs(script: Script, suite: Suite) -> None:
+def cards_pairs(script: Script, sealer: Sealer) -> None:
     """Each pair of broken questions, in the same record or in two."""
-    card = draft(script, suite, BROKEN_LENGTHS)
+    card = draft(script, sealer, BROKEN_LENGTHS)
     seen = set()
-    for first, second in combinations(paired_breaks(script, suite), 2):
-        wrong = deepcopy(card)
-        first(wrong)
-        second(wrong)
+    for first, second in combinations(paired_breaks(script, sealer), 2):
+        wrong = broken_card(card, first, second)
         text = wrong.to_bytes()
         if text not in seen:
             seen.add(text)
             check(script, wrong, text)
 
 
-def cards_moved(script: Script, suite: Suite) -> None:
+def cards_moved(script: Script, sealer: Sealer) -> None:
     """Records exchanged, left out, doubled, put after the end, or of another card."""
-    card = draft(script, suite, (2, 2, 1))
+    card = draft(script, sealer, (2, 2, 1))
     other = deepcopy(card)
     other.number ^= 1
     header = card.header()
@@ -556,11 +716,11 @@ def cards_moved(script: Script, suite: Suite) -> None:
     check(script, after)
 
 
-def cards_random(script: Script, suite: Suite) -> None:
+def cards_random(script: Script, sealer: Sealer) -> None:
     """Two or three bytes changed at once, and a cut beside a change."""
     for _ in range(12 * script.count):
         lengths = [script.random.randrange(6) for _ in range(script.random.randrange(4))]
-        card = draft(script, suite, lengths)
+        card = draft(script, sealer, lengths)
         text = card.to_bytes()
         check(script, card, text)
         for _ in range(script.random.randrange(2, 4)):
@@ -570,14 +730,14 @@ def cards_random(script: Script, suite: Suite) -> None:
         check(script, card, text[:script.random.randrange(len(text))])
 
 
-def cards_sheets(script: Script, suite: Suite) -> None:
+def cards_sheets(script: Script, sealer: Sealer) -> None:
     """Every sheet and some that are not there, with buffers of several lengths."""
-    lengths = (3, 0, suite.rate + 1)
-    card = draft(script, suite, lengths)
+    lengths = (3, 0, sealer.width + 1)
+    card = draft(script, sealer, lengths)
     text = card.to_bytes()
 
     def sheet(i: int, length: int, data: bytes = text, key: bytes = card.key) -> None:
-        script.call("sheet", suite.version, key, i, length, data)
+        script.call("sheet", sealer.version, key, i, length, data)
 
     for i, exact in enumerate(lengths):
         for length in sorted({0, max(exact - 1, 0), exact, exact + 1, exact + 7}):
@@ -593,56 +753,59 @@ def cards_sheets(script: Script, suite: Suite) -> None:
     sheet(0, 3, text, card.key[:15])
     sheet(0, 0, text, b"")
     sheet(0, 2, text, script.some_bytes(16))
-    empty = draft(script, suite, ())
+    empty = draft(script, sealer, ())
     sheet(0, 2, empty.to_bytes(), empty.key)
 
 
-def cards_finds(script: Script, suite: Suite) -> None:
+def cards_finds(script: Script, sealer: Sealer) -> None:
     """Cells that are there once, several times and not at all."""
     greatest = (1 << 32) - 1
     listed = [(7, 3), (8, 1), (7, 4), (9, 5), (8, 1), (9, 4), (0, 65535), (9, 5), (greatest, 0)]
     random_cells = [[(script.random.randrange(4), script.random.randrange(3)) for _ in range(6)]
                     for _ in range(2 * script.count)]
     for pairs in (listed, *random_cells):
-        card = draft(script, suite, [0] * len(pairs))
+        card = draft(script, sealer, [0] * len(pairs))
         for record, (cell, edition) in zip(card.records, pairs):
             record.cell, record.edition = cell, edition
         text = card.to_bytes()
         for cell in sorted({cell for cell, _ in pairs} | {1, 5, 1 << 31}):
-            script.call("find", suite.version, card.key, cell, text)
-    script.call("find", suite.version, card.key, 7, text[:-1])
-    script.call("find", suite.version, card.key[1:], 7, text)
-    script.call("find", suite.version, card.key, 7, b"")
-    script.call("find", suite.version, card.key, 0, draft(script, suite, ()).to_bytes())
-    empty = draft(script, suite, ())
-    script.call("find", suite.version, empty.key, 0, empty.to_bytes())
+            script.call("find", sealer.version, card.key, cell, text)
+    script.call("find", sealer.version, card.key, 7, text[:-1])
+    script.call("find", sealer.version, card.key[1:], 7, text)
+    script.call("find", sealer.version, card.key, 7, b"")
+    script.call("find", sealer.version, card.key, 0, draft(script, sealer, ()).to_bytes())
+    empty = draft(script, sealer, ())
+    script.call("find", sealer.version, empty.key, 0, empty.to_bytes())
 
 
 def cards_long(script: Script) -> None:
     """Bodies of 4,096 bytes and of one more."""
-    for suite in SUITES.values():
-        card = draft(script, suite, (MOST_BODY,))
+    for sealer in SEALERS.values():
+        card = draft(script, sealer, (MOST_BODY,))
         text = card.to_bytes()
         check(script, card, text)
-        check(script, card, text[:HEADER_BYTES + HEAD_BYTES + MOST_BODY + suite.rate - 1])
-        check(script, draft(script, suite, (MOST_BODY + 1,)))
+        check(script, card, text[:HEADER_BYTES + HEAD_BYTES + MOST_BODY + sealer.width - 1])
+        check(script, draft(script, sealer, (MOST_BODY + 1,)))
     for length in (MOST_BODY - 1, MOST_BODY, MOST_BODY + 1):
-        script.call("sheet", suite.version, card.key, 0, length, text)
+        script.call("sheet", sealer.version, card.key, 0, length, text)
 
 
 def cards_full(script: Script) -> None:
-    """512 sheets, and what may follow them."""
-    card = draft(script, BENCH, [0] * MOST_SHEETS)
+    """512 sheets, and what may follow them, with scratches of several lengths."""
+    card = draft(script, BENCH_SEALER, [0] * MOST_SHEETS)
     check(script, card)
-    text = card.to_bytes()[:-end_size(BENCH)]
+    text = card.to_bytes()[:-end_size(BENCH_SEALER)]
     card.records[-1:] = [DraftRecord(1, 512, 0), DraftRecord(2, 513, 0)]
-    check(script, card)
+    for scratch in SCRATCHES if script.count > 1 else (15, 16):
+        check(script, card, scratch=scratch)
     card.records[3].body = b"ABCDE"
-    check(script, card)
-    for following in (Head(3, 512, 0, 9999).to_bytes(), Head(1, 512, 0, 4097).to_bytes(),
-                      Head(1, 512, 0, 8).to_bytes() + bytes(3), Head(1, 0, 0, 0).to_bytes()[:8],
-                      Head(2, 511, 0, 0).to_bytes() + bytes(8)):
-        check(script, card, text + following)
+    check(script, card, scratch=17)
+    for following, scratch in ((Head(3, 512, 0, 9999).to_bytes(), 16),
+                               (Head(1, 512, 0, 4097).to_bytes(), 4095),
+                               (Head(1, 512, 0, 8).to_bytes() + bytes(3), 5000),
+                               (Head(1, 0, 0, 0).to_bytes()[:8], 16),
+                               (Head(2, 511, 0, 0).to_bytes() + bytes(8), 4096)):
+        check(script, card, text + following, scratch=scratch)
 
 
 # The writer
@@ -651,7 +814,7 @@ def cards_full(script: Script) -> None:
 class WriteBlock:
     """A write block before it becomes lines."""
 
-    suite: Suite
+    sealer: Sealer
     key: bytes
     number: int
     size: int
@@ -666,7 +829,7 @@ class WriteBlock:
 
     def to(self, script: Script) -> None:
         """Add the block's lines."""
-        script.call("write", self.suite.version, self.key, self.number, self.size, self.fill)
+        script.call("write", self.sealer.version, self.key, self.number, self.size, self.fill)
         for call in self.calls:
             if script.random.random() < 0.03:
                 script.raw(script.random.choice(("", "# between", "#")))
@@ -674,57 +837,57 @@ class WriteBlock:
         script.raw("end")
 
 
-def card_size(suite: Suite, lengths: Iterable[int]) -> int:
+def card_size(sealer: Sealer, lengths: Iterable[int]) -> int:
     """The length of a card with bodies of these lengths."""
-    return HEADER_BYTES + sum(record_size(suite, n) for n in lengths) + end_size(suite)
+    return HEADER_BYTES + sum(record_size(sealer, n) for n in lengths) + end_size(sealer)
 
 
 def writer(script: Script) -> None:
-    for suite in SUITES.values():
-        script.note(f"{suite.name}: start")
-        writer_starts(script, suite)
-        script.note(f"{suite.name}: media near the exact lengths")
-        writer_edges(script, suite)
-        script.note(f"{suite.name}: long bodies")
-        writer_long(script, suite)
-        script.note(f"{suite.name}: closes")
-        writer_closes(script, suite)
+    for sealer in SEALERS.values():
+        script.note(f"{sealer.name}: start")
+        writer_starts(script, sealer)
+        script.note(f"{sealer.name}: media near the exact lengths")
+        writer_edges(script, sealer)
+        script.note(f"{sealer.name}: long bodies")
+        writer_long(script, sealer)
+        script.note(f"{sealer.name}: closes")
+        writer_closes(script, sealer)
     script.note("random runs")
     for _ in range(36 * script.count):
         writer_random(script)
     script.note("512 sheets")
-    writer_full(script, BENCH, more=0)
+    writer_full(script, BENCH_SEALER, more=0)
     if script.count > 1:
-        writer_full(script, SUITES[1], more=record_size(SUITES[1], MOST_BODY + 1))
+        writer_full(script, SEALERS[1], more=record_size(SEALERS[1], MOST_BODY + 1))
 
 
-def new_block(script: Script, suite: Suite, size: int) -> WriteBlock:
-    return WriteBlock(suite, script.secret(), script.card_number(), size, script.some_bytes(1))
+def new_block(script: Script, sealer: Sealer, size: int) -> WriteBlock:
+    return WriteBlock(sealer, script.secret(), script.card_number(), size, script.some_bytes(1))
 
 
-def writer_starts(script: Script, suite: Suite) -> None:
+def writer_starts(script: Script, sealer: Sealer) -> None:
     """Media too short for a start and just long enough; keys of wrong lengths."""
-    least = card_size(suite, ())
+    least = card_size(sealer, ())
     for size in (0, 13, 22, least - 1, least, least + 1):
-        block = new_block(script, suite, size)
+        block = new_block(script, sealer, size)
         block.append(1, 2, b"")
         block.close()
         block.to(script)
     for key in (b"", script.some_bytes(15), script.some_bytes(17), script.some_bytes(32)):
         for size in (0, least - 1, least):
-            block = new_block(script, suite, size)
+            block = new_block(script, sealer, size)
             block.key = key
             block.close()
             block.to(script)
 
 
-def writer_edges(script: Script, suite: Suite) -> None:
+def writer_edges(script: Script, sealer: Sealer) -> None:
     """Each record of a card just fits, and fits by one byte less and more."""
-    lengths = (2, 0, suite.rate + 1)
+    lengths = (2, 0, sealer.width + 1)
     for count in range(1, 4):
-        exact = card_size(suite, lengths[:count])
+        exact = card_size(sealer, lengths[:count])
         for size in (exact - 1, exact, exact + 1):
-            block = new_block(script, suite, size)
+            block = new_block(script, sealer, size)
             for length in lengths:
                 block.append(script.random.getrandbits(32), script.random.getrandbits(16),
                              script.some_bytes(length))
@@ -732,24 +895,24 @@ def writer_edges(script: Script, suite: Suite) -> None:
             block.to(script)
 
 
-def writer_long(script: Script, suite: Suite) -> None:
+def writer_long(script: Script, sealer: Sealer) -> None:
     """Bodies of 4,096 and 4,097 bytes, with and without the room."""
     long = script.some_bytes(MOST_BODY + 1)
-    exact = card_size(suite, (MOST_BODY,))
-    for size in (exact - 1, exact, card_size(suite, ())):
-        block = new_block(script, suite, size)
+    exact = card_size(sealer, (MOST_BODY,))
+    for size in (exact - 1, exact, card_size(sealer, ())):
+        block = new_block(script, sealer, size)
         block.append(1, 1, long)
-        if size != card_size(suite, ()):
+        if size != card_size(sealer, ()):
             block.append(1, 2, long[1:])
         block.append(1, 3, b"")
         block.close()
         block.to(script)
 
 
-def writer_closes(script: Script, suite: Suite) -> None:
+def writer_closes(script: Script, sealer: Sealer) -> None:
     """No close, several of them, and calls after one."""
-    size = card_size(suite, (3, 3))
-    block = new_block(script, suite, size)
+    size = card_size(sealer, (3, 3))
+    block = new_block(script, sealer, size)
     block.to(script)
     block.append(0, 0, b"ABC")
     block.to(script)
@@ -764,9 +927,9 @@ def writer_closes(script: Script, suite: Suite) -> None:
 def writer_random(script: Script) -> None:
     """A jumble of calls on a medium that may be too short for some of them."""
     chance = script.random.random
-    suite = script.random.choice(list(SUITES.values()))
+    sealer = script.random.choice(list(SEALERS.values()))
     cells = (0, 1, 2, (1 << 32) - 1, script.random.getrandbits(32))
-    block = new_block(script, suite, 0)
+    block = new_block(script, sealer, 0)
     lengths = []
     for _ in range(script.random.randrange(1, 9)):
         if chance() < 0.12:
@@ -783,16 +946,16 @@ def writer_random(script: Script) -> None:
         block.close()
 
     some = script.random.sample(lengths, script.random.randrange(len(lengths) + 1))
-    block.size = max(0, card_size(suite, lengths if chance() < 0.3 else some)
+    block.size = max(0, card_size(sealer, lengths if chance() < 0.3 else some)
                      + script.random.choice((-1, 0, 0, 1, 1, 9, 20)))
     if chance() < 0.08:
         block.key = script.wrong_secret()
     block.to(script)
 
 
-def writer_full(script: Script, suite: Suite, more: int) -> None:
+def writer_full(script: Script, sealer: Sealer, more: int) -> None:
     """512 sheets, and appends that are refused for that and for other reasons too."""
-    block = new_block(script, suite, card_size(suite, [0] * MOST_SHEETS) + more)
+    block = new_block(script, sealer, card_size(sealer, [0] * MOST_SHEETS) + more)
     for i in range(MOST_SHEETS):
         block.append(i ^ 0x155, i % 7, b"")
     block.append(1, 1, b"")
@@ -884,8 +1047,44 @@ open-into 9 {KEY} {NONCE} - - 0909090909090909 0x10
 open-into 9 {KEY} {NONCE} - - 0909090909090909
 open-into 9 {KEY} {NONCE} - - 0909090909090909 0 0
 open-into 9 {KEY} {NONCE} - - 0909090909090909 {HUGE}
+test
+test 9
+test 9 {KEY}
+test 9 {KEY} {NONCE} - -
+test 9 {KEY} {NONCE} - - 0909090909090909
+test 9 {KEY} {NONCE} - - 0909090909090909 16 0
+test 9 {KEY} {NONCE} - - 0909090909090909 16 16 16
+test 9 {KEY} {NONCE} - - 0909090909090909 16 
+test 9 {KEY} {NONCE}  - 0909090909090909 16
+test  9 {KEY} {NONCE} - - 0909090909090909 16
+Test 9 {KEY} {NONCE} - - 0909090909090909 16
+test-into 9 {KEY} {NONCE} - - 0909090909090909 16
+tests 9 {KEY} {NONCE} - - 0909090909090909 16
+tested 9 {KEY} {NONCE} - - 0909090909090909 16
+test 3 {KEY} {NONCE} - - 0909090909090909 16
+test 0 0 0 0 0 0 x
+test 10
+test 778 {KEY} {NONCE} - - 01 16
+test bench {KEY} {NONCE} - - 0909090909090909 16
+test {OVER} {KEY} {NONCE} - - 0909090909090909 16
+test 9 0G 0 - - 0909090909090909 16
+test 9 {KEY} 0 0G - 0909090909090909 16
+test 9 {KEY} {NONCE} 00G - 0909090909090909 16
+test 9 {KEY} {NONCE} - 0x12 0909090909090909 16
+test 9 {KEY} {NONCE} - - 09090909090909z9 x
+test 9 {KEY} {NONCE} - - 090909090909090 x
+test 9 {KEY} {NONCE} - - 0909090909090909 -
+test 9 {KEY} {NONCE} - - 0909090909090909 -16
+test 9 {KEY} {NONCE} - - 0909090909090909 0x10
+test 9 {KEY} {NONCE} - - 0909090909090909 1O
+test 9 {KEY} {NONCE} - - 0909090909090909 {OVER}
+test 9 {KEY} {NONCE} - - 0909090909090909 {HUGE}
+test 9 - {NONCE} - - 0909090909090909 {HUGE}
+test 9 {KEY} {NONCE} - - 0909090909090909 {HUGE} 0
+test 09 {KEY} {NONCE} - - 0909090909090909 0000000000000000000000016
+test 9 {KEY} {NONCE} - - 0909090909090908 16
 check 9 {KEY} {EMPTY_CARD}
-check 9 {KEY} {EMPTY_CARD} 4096 0
+check 9 {KEY} {EMPTY_CARD} 16 0
 check 9 {KEY} {EMPTY_CARD} -
 check 9 {KEY} {EMPTY_CARD} 4,096
 check 9 {KEY} {EMPTY_CARD} {"9" * 60}
@@ -958,11 +1157,21 @@ Close
 forward 192 00
 forward
 seal 9
+test 9
+test
+test 3 0 x
 check 3 0
 find
 write 9 - 1 30 00
 write
 """
+
+
+RIGHT = (f"forward bench {STATE}", f"seal 9 {KEY} {NONCE} 00 0102",
+         f"open-into 1 {KEY} {NONCE} - 01 {KEY[:16]} 3", f"check 2 {KEY} {EMPTY_CARD} 16",
+         f"sheet 9 {KEY} 0 3 {EMPTY_CARD}", f"find 9 {KEY} 3 {EMPTY_CARD}",
+         f"seal-into 2 {KEY} {NONCE} 07 08 1 16",
+         f"test 9 {KEY} {NONCE} - 12 1D8D0D0D0D0D0D0D 16")
 
 
 def unread(script: Script) -> None:
@@ -982,11 +1191,6 @@ def unread(script: Script) -> None:
 
     unread_blocks(script)
     unread_random(script)
-
-    script.note("a write that is not ended")
-    script.call("write", 9, bytes.fromhex(KEY), 1, 40, b"\0")
-    script.raw("append 1 1 0")
-    script.raw("close")
 
 
 def unread_blocks(script: Script) -> None:
@@ -1008,17 +1212,23 @@ def unread_blocks(script: Script) -> None:
         script.raw(line)
     script.raw("append 1 1 00")
     script.raw("end")
+    # A right line of each kind of call, between the calls of a writer.
+    script.raw(f"write 9 {KEY} 289360691352306692 30 EE")
+    for line in RIGHT:
+        script.raw(line)
+    script.raw("close")
+    for line in RIGHT:
+        script.raw(line)
+    script.raw("end")
+    for line in RIGHT:
+        script.raw(line)
 
 
 def unread_random(script: Script) -> None:
     """Right lines with one or two words broken, taken away or added."""
-    right = [f"forward bench {STATE}", f"seal 9 {KEY} {NONCE} 00 0102",
-             f"open-into 1 {KEY} {NONCE} - 01 {KEY[:16]} 3", f"check 2 {KEY} {EMPTY_CARD} 4096",
-             f"sheet 9 {KEY} 0 3 {EMPTY_CARD}", f"find 9 {KEY} 3 {EMPTY_CARD}",
-             f"seal-into 2 {KEY} {NONCE} 07 08 1 16"]
     wrong = ("0G", "--", "99999999999999999999999", "+1", "zz")
     for _ in range(10 * script.count):
-        words = script.random.choice(right).split(" ")
+        words = script.random.choice(RIGHT).split(" ")
         for _ in range(script.random.randrange(1, 3)):
             words[script.random.randrange(1, len(words))] = script.random.choice(wrong)
         if script.random.random() < 0.3:
@@ -1052,17 +1262,22 @@ def edges(script: Script) -> None:
     script.note("no memory, and a word that is wrong after it")
     script.raw(f"seal-into 9 {KEY} {NONCE} - - {HUGE} x")
     script.raw(f"sheet 9 {KEY} 0 {HUGE} 0")
+    script.raw(f"test 9 {KEY} {NONCE} - - 0909090909090909 {HUGE} x")
     script.note("no memory for a medium")
     script.raw(f"write 9 {KEY} 1 {HUGE} 00")
     script.raw("append 1 1 00")
     script.raw("end")
-    script.note("the last line has a carriage return and no line feed")
-    script.raw("close\r")
+    script.note("a write that is not ended; the last line has a carriage return and no line feed")
+    script.raw(f"write 9 {KEY} 1 40 00")
+    script.raw("append 1 1 0")
+    script.raw("close")
+    script.raw("append 1 1 0\r")
 
 
 KINDS: dict[str, Callable[[Script], None]] = {
     "permutations": permutations,
     "cipher": cipher,
+    "test": tests,
     "cards": cards,
     "writer": writer,
     "unread": unread,

@@ -4,9 +4,13 @@ from __future__ import annotations
 
 import sys
 
+from random import Random
+from typing import Optional
+
 import dukkovil
-from dukkovil import (BENCH, BENCH_PERMUTATION, LIGHT192, LIGHT256, SPOC64, SPOC128, Card, Fault,
-                      Head, NoSuchStep, Permutation, Refused, Suite, Writer, xor)
+from dukkovil import (BENCH, BENCH_PERMUTATION, BENCH_SEALER, LIGHT192, LIGHT256, SEALERS, SPOC64,
+                      SPOC128, Card, Fault, Head, NoSuchStep, Permutation, Refused, Sealer, Spoc,
+                      Suite, Writer, xor)
 from workbench import Workbench
 
 KEY = b"\1" * 8 + b"\2" * 8
@@ -138,37 +142,116 @@ def check_cipher(checks: Checks) -> None:
     checks.same("forward", state, quarters("1F3F", "3D", "19", "C101"))
 
 
-def check_cipher_faults(checks: Checks) -> None:
-    """Each question broken alone, and with all later ones broken too."""
-    message = b"\x10" * 3
-    ciphertext, right = dukkovil.crypt(BENCH, KEY, NONCE, b"", message, opening=False)
-    broken = {1: {"key": KEY[:15]}, 2: {"nonce": NONCE + b"\0"}, 3: {"data": bytes(65536)},
-              4: {"room": 2}, 5: {"tag": right[:7]}, 6: {"tag": bytes(8)}}
-    for first in broken:
-        for numbers in ([first], list(range(first, 7))):
-            case = {"key": KEY, "nonce": NONCE, "data": b"", "room": 5, "tag": right}
-            for number in reversed(numbers):
-                case.update(broken[number])
-            public = case["key"], case["nonce"], case["data"]
-            kept = b"\xA5" * case["room"]
+def check_questions(checks: Checks) -> None:
+    """Each question of each sealer broken alone, and with all later ones broken too."""
+    for sealer in ALL_SEALERS:
+        what = f"version {sealer.version}"
+        message = b"\x10" * 3
+        ciphertext, right = sealer.sealed(KEY, NONCE, b"", message)
+        wrong = bytes([right[0] ^ 1]) + right[1:]
+        broken = {1: {"key": KEY[:15]}, 2: {"nonce": NONCE + b"\0"}, 3: {"data": bytes(65536)},
+                  4: {"room": 2, "scratch": 15}, 5: {"tag": right[1:]}, 6: {"tag": wrong}}
+        for first in (0, *broken):
+            for numbers in ([first], list(range(first, 7))) if first else ([],):
+                case = {"key": KEY, "nonce": NONCE, "data": b"", "room": 5, "scratch": 18,
+                        "tag": right}
+                for number in reversed(numbers):
+                    case.update(broken[number])
+                public = case["key"], case["nonce"], case["data"]
+                tag, fault = case["tag"], Fault(first, 1) if first else None
+                said = f"{what}, {numbers} broken"
 
-            out = bytearray(kept)
-            fault = fault_of(lambda: dukkovil.open_(BENCH, *public, ciphertext, out, case["tag"]))
-            checks.same(f"open, {numbers} broken", fault, Fault(first, 1))
-            checks.same(f"output, {numbers} broken", out,
-                        bytes(3) + kept[3:] if first == 6 else kept)
+                out = bytearray(b"\xA5" * case["room"])
+                checks.same(f"open, {said}",
+                            fault_of(lambda: sealer.open(*public, ciphertext, out, tag)), fault)
+                after = {0: message, 6: bytes(3)}.get(first, b"\xA5" * 3)
+                checks.same(f"output, {said}", out, (after + b"\xA5" * 2)[:case["room"]])
 
-            if first == 6:  # seal does not ask for this one
-                continue
-            out, tag = bytearray(kept), bytearray(case["tag"])
-            fault = fault_of(lambda: dukkovil.seal(BENCH, *public, message, out, tag))
-            checks.same(f"seal, {numbers} broken", fault, Fault(first, 1))
-            checks.same(f"buffers, {numbers} broken", (out, tag), (kept, case["tag"]))
+                scratch = bytearray(b"\xA5" * case["scratch"])
+                checks.same(f"test, {said}",
+                            fault_of(lambda: sealer.test(*public, ciphertext, scratch, tag)), fault)
+                after = bytes(16) if first in (0, 6) else b"\xA5" * 16
+                checks.same(f"scratch, {said}", scratch, (after + b"\xA5" * 2)[:case["scratch"]])
+
+                if first == 6:  # seal does not ask for this one
+                    continue
+                out, sealed_tag = bytearray(b"\xA5" * case["room"]), bytearray(b"\xA5" * len(tag))
+                checks.same(f"seal, {said}",
+                            fault_of(lambda: sealer.seal(*public, message, out, sealed_tag)), fault)
+                after = b"\xA5" * 3 if first else ciphertext
+                checks.same(f"sealed, {said}", out, (after + b"\xA5" * 2)[:case["room"]])
+                checks.same(f"sealed tag, {said}", sealed_tag,
+                            b"\xA5" * len(tag) if first else right)
+
+
+def check_test(checks: Checks) -> None:
+    """Test answers as open does, wherever both have room; and a message's own tag agrees."""
+    random = Random(1)
+    for sealer in ALL_SEALERS:
+        for length in (0, 1, 2, 4, 5, 6, 7, 8, 9, 15, 16, 17, 24, 31, 32, 33, 53, 100):
+            key, nonce = random.randbytes(16), random.randbytes(16)
+            data, message = random.randbytes(random.randrange(40)), random.randbytes(length)
+            ciphertext, tag = sealer.sealed(key, nonce, data, message)
+            checks.same("opened again", sealer.opened(key, nonce, data, ciphertext, tag), message)
+            changed = [(ciphertext, tag), (ciphertext, flipped(tag, random)),
+                       (ciphertext + b"\0", tag), (ciphertext[:-1], tag)]
+            changed += [(flipped(ciphertext, random), tag) for _ in range(3) if length]
+            for text, said in changed:
+                out, scratch = bytearray(len(text)), bytearray(b"\xA5" * 16)
+                opened = fault_of(lambda: sealer.open(key, nonce, data, text, out, said))
+                tested = fault_of(lambda: sealer.test(key, nonce, data, text, scratch, said))
+                checks.same(f"test of version {sealer.version}", tested, opened)
+                checks.same("its scratch", scratch, bytes(16))
+
+
+def flipped(text: bytes, random: Random) -> bytes:
+    """The same bytes with one bit changed."""
+    bit = random.randrange(8 * len(text))
+    return text[:bit // 8] + bytes([text[bit // 8] ^ 1 << bit % 8]) + text[bit // 8 + 1:]
+
+
+class OpensIntoMuch(Sealer):
+    """Another sealer, but that its test opens into 4,096 bytes of its own."""
+
+    def __init__(self, sealer: Sealer):
+        self.sealer, self.version, self.width = sealer, sealer.version, sealer.width
+
+    def sealed(self, *words: bytes) -> tuple[bytes, bytes]:
+        return self.sealer.sealed(*words)
+
+    def opened(self, *words: bytes) -> Optional[bytes]:
+        return self.sealer.opened(*words)
+
+    def tested(self, key: bytes, nonce: bytes, data: bytes, ciphertext: bytes,
+               scratch: bytearray, tag: bytes) -> bool:
+        room = bytearray(b"\x5A" * 4096)
+        return fault_of(lambda: self.open(key, nonce, data, ciphertext, room, tag)) is None
+
+
+def check_through_open(checks: Checks) -> None:
+    """Check answers as one that opens each body into 4,096 bytes."""
+    random = Random(2)
+    for sealer in ALL_SEALERS:
+        medium = bytearray(200)
+        writer = Writer.start(sealer, KEY, CARD_NUMBER, medium)
+        for cell, body in ((7, b"shoal"), (8, b""), (9, b"a body of several blocks")):
+            writer.append(medium, cell, 1, body)
+        card = bytes(medium[:writer.close(medium)])
+        texts = [card, card + b"\0", *(card[:length] for length in range(len(card)))]
+        texts += [card[:i] + bytes([card[i] ^ random.randrange(1, 256)]) + card[i + 1:]
+                  for i in range(len(card))]
+        for text in texts:
+            answers_of = []
+            for one in (sealer, OpensIntoMuch(sealer)):
+                scratch = bytearray(b"\xA5" * 17)
+                answers_of.append(fault_of(lambda: dukkovil.check(one, KEY, text, scratch)))
+                checks.same("scratch", scratch, bytes(16) + b"\xA5")
+            checks.same(f"check of version {sealer.version}", *answers_of)
 
 
 def check_bench_cards(checks: Checks) -> None:
     medium = bytearray(b"\xA5" * 50)
-    writer = Writer.start(BENCH, KEY, CARD_NUMBER, medium)
+    writer = Writer.start(BENCH_SEALER, KEY, CARD_NUMBER, medium)
     checks.same("after start", medium, BENCH_CARD[:13] + b"\xA5" * 37)
     checks.same("append", writer.append(medium, 7, 3, b"\x41\x42"), 0)
     checks.same("after append", medium, BENCH_CARD[:32] + b"\xA5" * 18)
@@ -176,7 +259,7 @@ def check_bench_cards(checks: Checks) -> None:
     checks.same("after close", medium, BENCH_CARD + b"\xA5")
 
     medium = bytearray(30)
-    writer = Writer.start(BENCH, KEY, CARD_NUMBER, medium)
+    writer = Writer.start(BENCH_SEALER, KEY, CARD_NUMBER, medium)
     shorter = bytearray(29)
     checks.same("close on a shorter medium", fault_of(lambda: writer.close(shorter)),
                 Fault(9, 3, 0, 13))
@@ -184,18 +267,19 @@ def check_bench_cards(checks: Checks) -> None:
     checks.same("append without room", fault_of(lambda: writer.append(medium, 0, 0, b"")),
                 Fault(9, 2, 0, 13))
     medium = bytearray(30)
-    checks.same("close at once", Writer.start(BENCH, KEY, CARD_NUMBER, medium).close(medium), 30)
+    writer = Writer.start(BENCH_SEALER, KEY, CARD_NUMBER, medium)
+    checks.same("close at once", writer.close(medium), 30)
     checks.same("card without a sheet", medium, EMPTY_BENCH_CARD)
 
-    scratch = bytearray(b"\xA5" * 4097)
-    card = dukkovil.check(BENCH, KEY, BENCH_CARD, scratch)
-    checks.same("scratch", scratch, bytes(4096) + b"\xA5")
+    scratch = bytearray(b"\xA5" * 17)
+    card = dukkovil.check(BENCH_SEALER, KEY, BENCH_CARD, scratch)
+    checks.same("scratch", scratch, bytes(16) + b"\xA5")
     checks.same("count", card.count, 1)
     checks.same("find", (dukkovil.find(card, 7), dukkovil.find(card, 8)), (0, None))
     body = bytearray(b"\xA5" * 3)
-    checks.same("sheet", dukkovil.sheet(BENCH, card, 0, body), dukkovil.Sheet(7, 3, 2))
+    checks.same("sheet", dukkovil.sheet(BENCH_SEALER, card, 0, body), dukkovil.Sheet(7, 3, 2))
     checks.same("body", body, b"\x41\x42\xA5")
-    empty = dukkovil.check(BENCH, KEY, EMPTY_BENCH_CARD, scratch)
+    empty = dukkovil.check(BENCH_SEALER, KEY, EMPTY_BENCH_CARD, scratch)
     checks.same("count without a sheet", empty.count, 0)
 
 
@@ -227,14 +311,14 @@ def check_tag_in_pencil(checks: Checks) -> None:
 def check_said_of_cards(checks: Checks) -> None:
     """What cards.md says in sentences."""
     def checked(data: bytes) -> object:
-        return fault_of(lambda: dukkovil.check(BENCH, KEY, data, bytearray(4096)).count)
+        return fault_of(lambda: dukkovil.check(BENCH_SEALER, KEY, data, bytearray(16)).count)
 
     long_end = BENCH_CARD[:32] + Head(2, 1, 0, 9999).to_bytes() + bytes(8)
     checks.same("an end of length 9,999", checked(long_end), Fault(14, 2, 1, 33))
     checks.same("only the tag cut", checked(BENCH_CARD[:-1]), Fault(10, 2, 1, 41))
 
     medium = bytearray(13 + 514 * 17)
-    writer = Writer.start(BENCH, KEY, CARD_NUMBER, medium)
+    writer = Writer.start(BENCH_SEALER, KEY, CARD_NUMBER, medium)
     for i in range(512):
         writer.append(medium, i, 0, b"")
     checks.same("513th append", fault_of(lambda: writer.append(medium, 0, 0, bytes(4097))),
@@ -247,7 +331,8 @@ def check_said_of_cards(checks: Checks) -> None:
     checks.same("512 sheets", checked(bytes(medium[:length])), 512)
 
     checks.same("sheet of the empty card",
-                fault_of(lambda: dukkovil.sheet(BENCH, Card(), 5, bytearray())), Fault(12, 3, 5, 0))
+                fault_of(lambda: dukkovil.sheet(BENCH_SEALER, Card(), 5, bytearray())),
+                Fault(12, 3, 5, 0))
     checks.same("find on the empty card", dukkovil.find(Card(), 0), None)
 
 
@@ -275,8 +360,18 @@ def check_workbench(checks: Checks) -> None:
          ["refused 6 layer 1 record 0 place 0", "output 00A5A5"]),
         ([f"write 9 {key} {CARD_NUMBER} 49 00", "append 7 3 4142", "", "# -", "close", "end"],
          ["started", "record 0", "closed 49", f"medium {BENCH_CARD.hex().upper()}"]),
-        ([f"check 9 {key} {BENCH_CARD.hex()} 4096"], ["checked 1", "scratch zero"]),
-        ([f"check 9 {key} {BENCH_CARD.hex()} 4095"],
+        ([f"write 9 {key} {CARD_NUMBER} 52 EE", "append 7 3 4142", "append 8 1 43", "close", "end"],
+         ["started", "record 0", "refused 9 layer 2 record 1 place 32", "closed 49",
+          f"medium {BENCH_CARD.hex().upper()}EEEEEE"]),
+        ([f"test 9 {key} {nonce} - 12 1D8D0D0D0D0D0D0D 16"], ["tested", "scratch zero"]),
+        ([f"test 9 {key} {nonce} - 12 1D8D0D0D0D0D0D0C 17"],
+         ["refused 6 layer 1 record 0 place 0", "scratch zero"]),
+        ([f"test 9 {key} {nonce} - 12 1D8D0D0D0D0D0D0D 15"],
+         ["refused 4 layer 1 record 0 place 0", "scratch kept"]),
+        ([f"test 9 {key} {nonce} - 12 1D8D0D0D0D0D0D0D 0"],
+         ["refused 4 layer 1 record 0 place 0", "scratch kept"]),
+        ([f"check 9 {key} {BENCH_CARD.hex()} 16"], ["checked 1", "scratch zero"]),
+        ([f"check 9 {key} {BENCH_CARD.hex()} 15"],
          ["refused 4 layer 1 record 0 place 0", "scratch kept"]),
         ([f"sheet 9 {key} 0 3 {BENCH_CARD.hex()}"],
          ["sheet 0 cell 7 edition 3 length 2 body 4142", "buffer 4142A5"]),
@@ -325,6 +420,9 @@ RING_SUITE = Suite("ring", 777, RING, (21, 13, 17, 11, 19), (7, 1, 9, 3, 5),
                    lambda key, nonce: RING.forward(xor(key, nonce) + nonce[9:]))
 
 
+RING_SEALER = Spoc(RING_SUITE)
+
+
 def check_other_suite(checks: Checks) -> None:
     state = bytes(range(1, 24))
     moved = bytes.fromhex("0C0C0C141414141C1C1C1C0102030405060708090A0B0C")
@@ -337,7 +435,7 @@ def check_other_suite(checks: Checks) -> None:
         made = dukkovil.crypt(RING_SUITE, KEY, NONCE, data, message, opening=False)
         checks.same("ring sealed", made, (bytes.fromhex(ciphertext), bytes.fromhex(tag)))
     medium = bytearray(80)
-    writer = Writer.start(RING_SUITE, KEY, CARD_NUMBER, medium)
+    writer = Writer.start(RING_SEALER, KEY, CARD_NUMBER, medium)
     for cell, edition, body in ((7, 1, b"shoal"), (7, 2, b"deeper"), (9, 1, b"")):
         writer.append(medium, cell, edition, body)
     checks.same("ring card's length", writer.close(medium), 80)
@@ -349,11 +447,109 @@ def check_other_suite(checks: Checks) -> None:
         0200000003000000 00 3047740C5F"""))
 
 
+class FirstByte(Sealer):
+    """A sealer of another's making: a ciphertext is its message, a tag the key's first byte."""
+
+    version = 778
+    width = 1
+
+    def sealed(self, key: bytes, nonce: bytes, data: bytes, message: bytes) -> tuple[bytes, bytes]:
+        return message, key[:1]
+
+    def opened(self, key: bytes, nonce: bytes, data: bytes, ciphertext: bytes,
+               tag: bytes) -> Optional[bytes]:
+        return ciphertext if tag == key[:1] else None
+
+    def tested(self, key: bytes, nonce: bytes, data: bytes, ciphertext: bytes,
+               scratch: bytearray, tag: bytes) -> bool:
+        for block in dukkovil.cut(ciphertext, 16):
+            scratch[:len(block)] = block
+        return tag == key[:1]
+
+
+FIRST_BYTE = FirstByte()
+FIRST_BYTE_CARD = bytes.fromhex("""
+    53 45 41 03 0A 04 04 04 04 04 04 04 04
+    01 00 00 00 07 00 01 00 05 73 68 6F 61 6C 01
+    01 00 00 00 09 00 02 00 06 64 65 65 70 65 72 01
+    02 00 00 00 02 00 00 00 00 01""")
+
+ALL_SEALERS = (*SEALERS.values(), RING_SEALER, FIRST_BYTE)
+
+
+def check_other_sealer(checks: Checks) -> None:
+    """The card of another sealer, and what the tests of crates/other_sealer expect."""
+    nonce, other_key, like_key = b"\4" * 16, b"\3" + KEY[1:], KEY[:15] + b"\3"
+    out, tag = bytearray(b"\7" * 8), bytearray(1)
+    FIRST_BYTE.seal(KEY, nonce, b"chart", b"shoal", out, tag)
+    checks.same("first byte sealed", (out, tag), (b"shoal\7\7\7", b"\1"))
+    out = bytearray(b"\7" * 6)
+    for key, fault, after in ((KEY, None, b"shoal\7"), (other_key, Fault(6, 1), bytes(5) + b"\7")):
+        checks.same("first byte opened", fault_of(
+            lambda: FIRST_BYTE.open(key, nonce, b"chart", b"shoal", out, b"\1")), fault)
+        checks.same("its output", out, after)
+
+    kept, wiped = b"\7" * 18, bytes(16) + b"\7\7"
+    for key, said, fault, after in (
+            (KEY, b"\1", None, wiped), (KEY, b"\2", Fault(6, 1), wiped),
+            (KEY, b"", Fault(5, 1), kept), (b"\1" * 15, b"\1", Fault(1, 1), kept)):
+        scratch = bytearray(kept)
+        checks.same("first byte tested", fault_of(
+            lambda: FIRST_BYTE.test(key, nonce, b"chart", b"shoal", scratch, said)), fault)
+        checks.same("its scratch", scratch, after)
+    scratch = bytearray(b"\7" * 15)
+    checks.same("a scratch of 15", fault_of(
+        lambda: FIRST_BYTE.test(KEY, nonce, b"", b"", scratch, b"\1")), Fault(4, 1))
+    checks.same("which stays", scratch, b"\7" * 15)
+
+    sheets = ((7, 1, b"shoal"), (9, 2, b"deeper"))
+    medium = bytearray(b"\7" * 56)
+    writer = Writer.start(FIRST_BYTE, KEY, CARD_NUMBER, medium)
+    for i, sheet in enumerate(sheets):
+        checks.same("append", writer.append(medium, *sheet), i)
+    checks.same("first byte's card's length", writer.close(medium), 54)
+    checks.same("first byte's card", medium, FIRST_BYTE_CARD + b"\7\7")
+
+    medium = bytearray(b"\7" * 54)
+    writer = Writer.start(FIRST_BYTE, KEY, CARD_NUMBER, medium)
+    calls = [lambda: writer.append(medium, *sheets[0]),
+             lambda: writer.append(medium, 8, 1, bytes(4097)),
+             lambda: writer.append(medium, *sheets[1]), lambda: writer.close(medium)]
+    checks.same("replayed", [fault_of(call) for call in calls], [0, Fault(7, 2, 1, 28), 1, 54])
+    checks.same("its medium", medium, FIRST_BYTE_CARD)
+
+    scratch = bytearray(kept)
+    card = dukkovil.check(FIRST_BYTE, KEY, FIRST_BYTE_CARD, scratch)
+    checks.same("scratch", scratch, wiped)
+    checks.same("count", card.count, 2)
+    for i, (cell, edition, body) in enumerate(sheets):
+        out = bytearray(b"\7" * 16)
+        checks.same("sheet", dukkovil.sheet(FIRST_BYTE, card, i, out),
+                    dukkovil.Sheet(cell, edition, len(body)))
+        checks.same("body", out, body.ljust(16, b"\7"))
+    checks.same("find", (dukkovil.find(card, 9), dukkovil.find(card, 8)), (1, None))
+    checks.same("another sealer's card",
+                fault_of(lambda: dukkovil.sheet(BENCH_SEALER, card, 1, out)), Fault(12, 3, 1, 0))
+
+    def checked(key: bytes, place: Optional[int] = None, byte: int = 0) -> object:
+        text = bytearray(FIRST_BYTE_CARD)
+        if place is not None:
+            text[place] = byte
+        return fault_of(lambda: dukkovil.check(FIRST_BYTE, key, bytes(text), bytearray(16)).count)
+
+    checks.same("its key", checked(KEY), 2)
+    checks.same("a key that begins alike", checked(like_key), 2)
+    checks.same("a key that begins otherwise", checked(other_key), Fault(6, 1, 0, 27))
+    checks.same("a tag changed", checked(KEY, 43, 2), Fault(6, 1, 1, 43))
+    checks.same("the last tag changed", checked(KEY, 53, 2), Fault(6, 1, 2, 53))
+    checks.same("a version changed", checked(KEY, 4, 9), Fault(12, 3, 0, 3))
+
+
 def main() -> int:
     checks = Checks()
-    for part in (check_permutations, check_suites, check_cipher, check_cipher_faults,
-                 check_bench_cards, check_tag_in_pencil, check_said_of_cards, check_workbench,
-                 check_listing, check_other_suite):
+    for part in (check_permutations, check_suites, check_cipher, check_questions, check_test,
+                 check_through_open, check_bench_cards, check_tag_in_pencil, check_said_of_cards,
+                 check_workbench, check_listing, check_other_suite, check_other_sealer):
         part(checks)
     print(f"{checks.count} checks, {checks.wrong} wrong")
     return 1 if checks.wrong else 0

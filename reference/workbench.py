@@ -7,7 +7,7 @@ from dataclasses import dataclass, field
 from typing import Callable, Iterable, Optional, Union
 
 import dukkovil
-from dukkovil import PERMUTATIONS, SUITES, Permutation, Refused, Suite, Writer
+from dukkovil import PERMUTATIONS, SCRATCH_BYTES, SEALERS, Permutation, Refused, Sealer, Writer
 
 FILLED = b"\xA5"
 
@@ -53,11 +53,11 @@ class Words:
     def take_number(self, bits: int = 64) -> int:
         return read_number(self.take(), bits)
 
-    def take_suite(self) -> Suite:
-        suite = SUITES.get(self.take_number())
-        if suite is None:
+    def take_sealer(self) -> Sealer:
+        sealer = SEALERS.get(self.take_number())
+        if sealer is None:
             raise Unread("unknown version")
-        return suite
+        return sealer
 
     def take_permutation(self) -> tuple[str, Permutation]:
         """A permutation with its name."""
@@ -137,41 +137,59 @@ def read_state(words: Words) -> tuple[Permutation, bytes]:
 # Calls on the cipher
 
 def call_seal(words: Words) -> Lines:
-    suite = words.take_suite()
+    sealer = words.take_sealer()
     key, nonce, data, message = (words.take_bytes() for _ in range(4))
     words.end()
-    out, tag = buffer(len(message)), buffer(suite.rate)
-    refusal = refused(lambda: dukkovil.seal(suite, key, nonce, data, message, out, tag))
+    out, tag = buffer(len(message)), buffer(sealer.width)
+    refusal = refused(lambda: sealer.seal(key, nonce, data, message, out, tag))
     return [refusal or f"sealed {shown(out)} {shown(tag)}"]
 
 
 def call_open(words: Words) -> Lines:
-    suite = words.take_suite()
+    sealer = words.take_sealer()
     key, nonce, data, ciphertext, tag = (words.take_bytes() for _ in range(5))
     words.end()
     out = buffer(len(ciphertext))
-    refusal = refused(lambda: dukkovil.open_(suite, key, nonce, data, ciphertext, out, tag))
+    refusal = refused(lambda: sealer.open(key, nonce, data, ciphertext, out, tag))
     return [refusal or f"opened {shown(out)}"]
 
 
 def call_seal_into(words: Words) -> Lines:
-    suite = words.take_suite()
+    sealer = words.take_sealer()
     key, nonce, data, message = (words.take_bytes() for _ in range(4))
     room, width = words.take_number(), words.take_number()
     words.end()
     out, tag = buffer(room), buffer(width)
-    refusal = refused(lambda: dukkovil.seal(suite, key, nonce, data, message, out, tag))
+    refusal = refused(lambda: sealer.seal(key, nonce, data, message, out, tag))
     return [refusal or "sealed", f"output {shown(out)}", f"tag {shown(tag)}"]
 
 
 def call_open_into(words: Words) -> Lines:
-    suite = words.take_suite()
+    sealer = words.take_sealer()
     key, nonce, data, ciphertext, tag = (words.take_bytes() for _ in range(5))
     room = words.take_number()
     words.end()
     out = buffer(room)
-    refusal = refused(lambda: dukkovil.open_(suite, key, nonce, data, ciphertext, out, tag))
+    refusal = refused(lambda: sealer.open(key, nonce, data, ciphertext, out, tag))
     return [refusal or "opened", f"output {shown(out)}"]
+
+
+def call_test(words: Words) -> Lines:
+    sealer = words.take_sealer()
+    key, nonce, data, ciphertext, tag = (words.take_bytes() for _ in range(5))
+    room = words.take_number()
+    words.end()
+    scratch = buffer(room)
+    refusal = refused(lambda: sealer.test(key, nonce, data, ciphertext, scratch, tag))
+    return [refusal or "tested", f"scratch {scratch_after(scratch)}"]
+
+
+def scratch_after(scratch: bytearray) -> str:
+    """What has become of a scratch that was filled."""
+    if scratch == FILLED * len(scratch):
+        return "kept"
+    wiped = bytes(SCRATCH_BYTES) + FILLED * (len(scratch) - SCRATCH_BYTES)
+    return "zero" if scratch == wiped else "other"
 
 
 def refused(call: Callable[[], object]) -> Optional[str]:
@@ -186,35 +204,26 @@ def refused(call: Callable[[], object]) -> Optional[str]:
 # Calls on cards
 
 def call_check(words: Words) -> Lines:
-    suite, key, card = words.take_suite(), words.take_bytes(), words.take_bytes()
+    sealer, key, card = words.take_sealer(), words.take_bytes(), words.take_bytes()
     size = words.take_number()
     words.end()
     scratch = buffer(size)
     try:
-        answer = f"checked {dukkovil.check(suite, key, card, scratch).count}"
+        answer = f"checked {dukkovil.check(sealer, key, card, scratch).count}"
     except Refused as refusal:
         answer = str(refusal.fault)
     return [answer, f"scratch {scratch_after(scratch)}"]
 
 
-def scratch_after(scratch: bytearray) -> str:
-    """What has become of a scratch that was filled."""
-    most = dukkovil.MOST_BODY
-    rest = max(len(scratch) - most, 0)
-    if scratch == bytes(most) + FILLED * rest:
-        return "zero"
-    return "kept" if scratch == FILLED * len(scratch) else "other"
-
-
 def call_sheet(words: Words) -> Lines:
-    suite, key = words.take_suite(), words.take_bytes()
+    sealer, key = words.take_sealer(), words.take_bytes()
     i, length = words.take_number(), words.take_number()
     data = words.take_bytes()
     words.end()
     body = buffer(length)
     try:
-        card = dukkovil.check(suite, key, data, buffer(dukkovil.MOST_BODY))
-        found = dukkovil.sheet(suite, card, i, body)
+        card = dukkovil.check(sealer, key, data, buffer(SCRATCH_BYTES))
+        found = dukkovil.sheet(sealer, card, i, body)
         answer = (f"sheet {i} cell {found.cell} edition {found.edition}"
                   f" length {found.length} body {shown(body[:found.length])}")
     except Refused as refusal:
@@ -223,11 +232,11 @@ def call_sheet(words: Words) -> Lines:
 
 
 def call_find(words: Words) -> Lines:
-    suite, key, cell = words.take_suite(), words.take_bytes(), words.take_number(32)
+    sealer, key, cell = words.take_sealer(), words.take_bytes(), words.take_number(32)
     data = words.take_bytes()
     words.end()
     try:
-        card = dukkovil.check(suite, key, data, buffer(dukkovil.MOST_BODY))
+        card = dukkovil.check(sealer, key, data, buffer(SCRATCH_BYTES))
     except Refused as refusal:
         return [str(refusal.fault)]
     i = dukkovil.find(card, cell)
@@ -243,7 +252,7 @@ WriterCall = Callable[[Writer, bytearray], str]
 class Block:
     """A card that is being written: the write line, and the calls so far."""
 
-    suite: Suite
+    sealer: Sealer
     key: bytes
     number: int
     size: int
@@ -257,7 +266,7 @@ class Block:
 
     def _called(self, medium: bytearray) -> Iterable[str]:
         try:
-            writer = Writer.start(self.suite, self.key, self.number, medium)
+            writer = Writer.start(self.sealer, self.key, self.number, medium)
         except Refused as refusal:
             yield str(refusal.fault)
             return
@@ -272,11 +281,11 @@ class Block:
 
 
 def read_write(words: Words) -> Block:
-    suite, key = words.take_suite(), words.take_bytes()
+    sealer, key = words.take_sealer(), words.take_bytes()
     number, size = words.take_number(), words.take_number()
     fill = words.take_one_byte()
     words.end()
-    return Block(suite, key, number, size, fill)
+    return Block(sealer, key, number, size, fill)
 
 
 def read_append(words: Words) -> WriterCall:
@@ -300,6 +309,7 @@ CALLS: dict[bytes, Callable[[Words], Lines]] = {
     b"open": call_open,
     b"seal-into": call_seal_into,
     b"open-into": call_open_into,
+    b"test": call_test,
     b"check": call_check,
     b"sheet": call_sheet,
     b"find": call_find,
