@@ -5,7 +5,6 @@ use Rattle.std.proofs.ByRecursion.{All-append, All-drop}
 use Rattle.permutations.specs.Permutation.{Bytes}
 use Rattle.sealer.specs.Sealing.{Sealing, Laws, Octets}
 use Rattle.cards.specs.Format.{be2, be4, be8, mark, header, head, nonce, sealed, Sheet, sheet_record, end_record, records, card}
-use Rattle.cards.specs.Claims.{Well}
 
 low : (n : ℕ) → n % 256 < 256
 low n = omega arith
@@ -44,12 +43,12 @@ module _ (S : Sealing) (L : Laws S) (key : List ℕ) (hk : Bytes 16 key) (number
       both hd (S.ciphertext key (nonce h n) (h ++ hd) m ++ S.tag key (nonce h n) (h ++ hd) m) oh
       (both (S.ciphertext key (nonce h n) (h ++ hd) m) (S.tag key (nonce h n) (h ++ hd) m) (L.ciphertext_octets key (nonce h n) (h ++ hd) m hk (nonce_bytes n) d om) (L.tag_octets key (nonce h n) (h ++ hd) m hk (nonce_bytes n) d om))
 
-  records_octets : (n : ℕ) (xs : List Sheet) → AllByRecursion Well xs → Octets (records S key h n xs)
+  records_octets : (n : ℕ) (xs : List Sheet) → AllByRecursion (λ s. Octets s.body) xs → Octets (records S key h n xs)
   records_octets n [] w = tt
   records_octets n (s ∷ xs) w =
-      both (sheet_record S key h n s) (records S key h (suc n) xs) (sealed_octets n (head 1 s.cell s.edition (length s.body)) s.body (head_octets 1 s.cell s.edition (length s.body) (omega arith)) w.0.body) (records_octets (suc n) xs w.1)
+      both (sheet_record S key h n s) (records S key h (suc n) xs) (sealed_octets n (head 1 s.cell s.edition (length s.body)) s.body (head_octets 1 s.cell s.edition (length s.body) (omega arith)) w.0) (records_octets (suc n) xs w.1)
 
-  pub card_octets : (xs : List Sheet) → AllByRecursion Well xs → Octets (card S key number xs)
+  pub card_octets : (xs : List Sheet) → AllByRecursion (λ s. Octets s.body) xs → Octets (card S key number xs)
   card_octets xs w =
       both h (records S key h 0 xs ++ end_record S key h (length xs)) h_octets
       (both (records S key h 0 xs) (end_record S key h (length xs)) (records_octets 0 xs w) (sealed_octets (length xs) (head 2 (length xs) 0 0) [] (head_octets 2 (length xs) 0 0 (omega arith)) tt))

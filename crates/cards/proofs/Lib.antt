@@ -1,5 +1,6 @@
 pub mod Numbers
 pub mod Heads
+pub mod Asking
 pub mod Parsing
 pub mod Records
 pub mod Walking

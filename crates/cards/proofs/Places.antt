@@ -6,7 +6,7 @@ use Rattle.std.proofs.str.Laws.{order}
 use Rattle.sealer.specs.Sealing.{Sealing}
 use Rattle.cards.specs.Faults.{Fault, fault, and_then}
 use Rattle.cards.specs.Format.{nonce, Sheet, a_sheet}
-use Rattle.cards.specs.Reader.{Card, Record, sheet, last, parse, opened, unseal, read_record, walk, check, checked, check_bytes, place_of, sheet_at, sheet_answer, length_of, head_of, body_of, tag_of}
+use Rattle.cards.specs.Reader.{Card, Record, sheet, last, parse, opened, unseal, read_record, walk, check, checked, check_bytes, place_of, sheet_at, sheet_opened, length_of, head_of, body_of, tag_of}
 use Rattle.cards.proofs.Parsing.{Parsed, sheet_parsed, end_parsed}
 use Rattle.cards.proofs.Records.{end_no_sheet, sheet_no_end}
 use Rattle.cards.proofs.Walking.{cons_back, end_only, walk_refused, walk_sheet, walk_end}
@@ -117,13 +117,13 @@ module _ (S : Sealing) (key bs : List ℕ) where
   opened_not i p rest h buffer f None m e op is n = let z : ◌≡◌ {A = ℕ} 0 1 = cc in omega arith
 
   -- sheet never answers 6 on it, under the sealer that passed it
-  pub never_six : (scratch : ℕ) (c : Card) → check S key scratch bs ≡ Ok c → (i buffer : ℕ) (f : Fault) → sheet_answer S c i buffer ≡ Err f → f.number ≡ 6 → ⊥
+  pub never_six : (scratch : ℕ) (c : Card) → check S key scratch bs ≡ Ok c → (i buffer : ℕ) (f : Fault) → sheet_opened S c i buffer ≡ Err f → f.number ≡ 6 → ⊥
   never_six scratch c h i buffer f is n =
       let x = checked_back S key bs scratch c h in
       let y = passed_back S key bs c (check_bytes S key bs) x.1 in
       let l = lies y.0 y.1 in
       let p = place_of S.width bs i in
-      let is' : sheet_answer S (checked S key bs y.0) i buffer ≡ Err f = ap (λ (d : Card). sheet_answer S d i buffer) y.2 ∙ is in
+      let is' : sheet_opened S (checked S key bs y.0) i buffer ≡ Err f = ap (λ (d : Card). sheet_opened S d i buffer) y.2 ∙ is in
       let low : i < length y.0 = grind (arith, nat_tests) in
       let o = l.opens i low in
       opened_not i p (drop p bs) (take 13 bs) buffer f (opening S key (take 13 bs) i (drop p bs)) o.0 o.1 refl (grind (arith, nat_tests)) n

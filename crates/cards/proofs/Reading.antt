@@ -1,15 +1,15 @@
 -- A card reads as its sheets, and bytes that read as sheets are their card.
-use Rattle.std.proofs.Common.{◌≡◌, ℕ, zero, suc, ◌+◌, ◌^◌, ◌<◌, ◌≤◌, true, cond, eqb, ltb, leb, List, [], ◌∷◌, ◌++◌, length, get_or, take, drop, Ok, Err, Result, sym, refl, ap, ◌∙◌, subst, zero-add, add-one, arith, lit≤}
+use Rattle.std.proofs.Common.{◌≡◌, ℕ, zero, suc, ◌+◌, ◌^◌, ◌<◌, ◌≤◌, true, cond, eqb, ltb, leb, List, [], ◌∷◌, ◌++◌, length, get_or, take, drop, replicate, Ok, Err, Result, sym, refl, ap, ◌∙◌, subst, zero-add, add-one, arith, lit≤}
 use Rattle.std.specs.List.{AllByRecursion}
 use Rattle.std.specs.Str.{bytes_eq}
 use Rattle.std.proofs.ByRecursion.{All-drop, All-get_or}
-use Rattle.std.proofs.lemmas.List.{length-append, drop-drop, drop_more, drop_at, take_at, take-append-drop, ext_get_or}
+use Rattle.std.proofs.lemmas.List.{length-append, drop-drop, drop_more, drop_at, take_at, take-append-drop, ext_get_or, length-replicate}
 use Rattle.std.proofs.lemmas.Bool.Decides.{nat_tests}
 use Rattle.sealer.specs.Sealing.{Sealing, Laws, Octets}
 use Rattle.cards.specs.Faults.{Fault, fault, and_then}
 use Rattle.cards.specs.Format.{header, mark, nonce, Sheet, a_sheet, end_record, records, card}
-use Rattle.cards.specs.Reader.{Card, checked, check, check_bytes, walk, place_of, sheet_at, sheet_answer, unseal, cell_of, edition_of, length_of, head_of, body_of, tag_of, version_of}
-use Rattle.cards.specs.Claims.{Reads, ReadsOnce}
+use Rattle.cards.specs.Reader.{Card, checked, check, check_bytes, walk, place_of, sheet_at, Heading, heading, Drawn, drawn, size_of, sheet_opened, sheet_drawn, unseal, cell_of, edition_of, length_of, head_of, body_of, tag_of, version_of}
+use Rattle.cards.specs.Claims.{Draws, Reads, ReadsOnce}
 use Rattle.cards.proofs.Numbers.{two_bytes}
 use Rattle.cards.proofs.Heads.{header_from}
 use Rattle.cards.proofs.Records.{Fit, Seen, seen}
@@ -50,13 +50,33 @@ module _ (S : Sealing) (L : Laws S) (key h : List ℕ) (xs : List Sheet) (hl : l
       ∙ ap (λ c. Ok (a_sheet c (edition_of rest) s.body)) here.cell
       ∙ ap (λ c. Ok (a_sheet s.cell c s.body)) here.edition
 
-  pub answer_read : (i buffer : ℕ) (d : Sheet) → i < length xs → length (get_or xs i d).body ≤ buffer → sheet_answer S (checked S key bytes xs) i buffer ≡ Ok (get_or xs i d)
+  pub answer_read : (i buffer : ℕ) (d : Sheet) → i < length xs → length (get_or xs i d).body ≤ buffer → sheet_opened S (checked S key bytes xs) i buffer ≡ Ok (get_or xs i d)
   answer_read i buffer d lt le =
       let same : (n : ℕ) → eqb n n ≡ true = λ n. grind (arith, nat_tests) in
       let t1 = same S.version in
       let t2 = same S.width in
       let t3 : ltb i (length xs) ≡ true = grind (arith, nat_tests) in
       rw (t1, t2, t3) (sheet_read i buffer d (take 13 bytes) (take_at h (tail_from S key h 0 xs) 13 hl) lt le)
+
+-- a sheet that is opened is drawn
+pub draws_opened : (s : Sheet) (n : ℕ) (buffer : List ℕ) (o : Result Sheet Fault) → o ≡ Ok s → Draws s buffer (drawn o n buffer)
+draws_opened s n buffer o e = record {
+  answer = ap (λ z. (drawn z n buffer).answer) e;
+  buffer = ap (λ z. (drawn z n buffer).buffer) e;
+}
+
+-- two sheets that one buffer is drawn alike with are one
+same_sheet : (x y : Sheet) (rest : List ℕ) → ◌≡◌ {A = Result Heading Fault} (Ok (heading x)) (Ok (heading y)) → x.body ++ drop (length x.body) rest ≡ y.body ++ drop (length y.body) rest → x ≡ y
+same_sheet x y rest h b =
+    let heads : heading x ≡ heading y = cc in
+    let size : length x.body ≡ length y.body = ap (λ (z : Heading). z.size) heads in
+    let body : x.body ≡ y.body =
+    sym (take_at x.body (drop (length x.body) rest) (length x.body) refl)
+    ∙ ap (take (length x.body)) b
+    ∙ take_at y.body (drop (length y.body) rest) (length x.body) (sym size) in
+    ap (λ c. a_sheet c x.edition x.body) (ap (λ (z : Heading). z.cell) heads)
+    ∙ ap (λ e. a_sheet y.cell e x.body) (ap (λ (z : Heading). z.edition) heads)
+    ∙ ap (a_sheet y.cell y.edition) body
 
 module _ (S : Sealing) (L : Laws S) (key : List ℕ) where
   abbrev head13 : ℕ → List ℕ
@@ -95,7 +115,7 @@ module _ (S : Sealing) (L : Laws S) (key : List ℕ) where
     card = checked S key (whole number xs) xs;
     passes = λ scratch hs. check_passed (whole number xs) xs scratch hk hs (bytes_passed number xs fit few);
     counts = refl;
-    gives = λ i buffer d lt le. answer_read S L key (head13 number) xs refl fit i buffer d lt le;
+    gives = λ i buffer d lt le. draws_opened (get_or xs i d) (size_of (checked S key (whole number xs) xs) i) buffer _ (answer_read S L key (head13 number) xs refl fit i (length buffer) d lt le);
   }
 
   pub card_reads : (number : ℕ) (xs : List Sheet) → length key ≡ 16 → AllByRecursion Fit xs → length xs ≤ 512 → Reads S key (card S key number xs) xs
@@ -108,12 +128,16 @@ reads_once S key bs xs ys a b =
     let long : length xs ≡ length ys = sym a.counts ∙ ap (λ (c : Card). c.count) same ∙ b.counts in
     ext_get_or (a_sheet 0 0 []) xs ys long (λ i lt.
     let d = a_sheet 0 0 [] in
-    let room = length (get_or xs i d).body + length (get_or ys i d).body in
-    let p = a.gives i room d lt (omega arith) in
-    let q = b.gives i room d (omega arith) (omega arith) in
-    let e : sheet_answer S a.card i room ≡ sheet_answer S b.card i room = ap (λ (c : Card). sheet_answer S c i room) same in
-    let r : ◌≡◌ {A = Result Sheet Fault} (Ok (get_or xs i d)) (Ok (get_or ys i d)) = sym p ∙ e ∙ q in
-    cc)
+    let x = get_or xs i d in
+    let y = get_or ys i d in
+    let room = replicate (length x.body + length y.body) 0 in
+    let l : length room ≡ length x.body + length y.body = length-replicate (length x.body + length y.body) 0 in
+    let hx : length x.body ≤ length room = omega (arith, l) in
+    let hy : length y.body ≤ length room = omega (arith, l) in
+    let p = a.gives i room d lt hx in
+    let q = b.gives i room d (omega arith) hy in
+    let e : sheet_drawn S a.card i room ≡ sheet_drawn S b.card i room = ap (λ (c : Card). sheet_drawn S c i room) same in
+    same_sheet x y room (sym p.answer ∙ ap (λ (z : Drawn). z.answer) e ∙ q.answer) (sym p.buffer ∙ ap (λ (z : Drawn). z.buffer) e ∙ q.buffer))
 
 -- bytes that check passes
 module _ (S : Sealing) (key : List ℕ) where

@@ -1,5 +1,5 @@
 -- What the plain writer keeps from call to call.
-use Rattle.std.proofs.Common.{◌≡◌, ℕ, suc, ◌+◌, ◌-◌, ◌<◌, ◌≤◌, List, [], ◌∷◌, ◌++◌, length, take, drop, Ok, sym, refl, ap, ◌∙◌, zero-add, arith}
+use Rattle.std.proofs.Common.{◌≡◌, ℕ, suc, ◌+◌, ◌-◌, ◌<◌, ◌≤◌, true, cond, leb, List, [], ◌∷◌, ◌++◌, length, take, drop, Ok, Err, Result, sym, refl, ap, ◌∙◌, zero-add, arith}
 use Rattle.std.specs.List.{AllByRecursion}
 use Rattle.std.proofs.ByRecursion.{All-push}
 use Rattle.std.proofs.lemmas.List.{append_assoc, append-nil, length-append, length-take-le, length-drop, length_push, take_at}
@@ -7,6 +7,9 @@ use Rattle.std.proofs.lemmas.Bool.Decides.{nat_tests}
 use Rattle.sealer.specs.Sealing.{Sealing, Laws}
 use Rattle.cards.specs.Format.{header, head, Sheet, sheet_record, end_record, records, card}
 use Rattle.cards.specs.Plain.{Plain, overwrite, count, started, start, append_questions, append_answer, appended, close_questions, close_answer, closed_medium}
+use Rattle.cards.specs.Faults.{Fault, fault}
+use Rattle.cards.specs.Questions.{sheet_questions, goes_on, at_record}
+use Rattle.cards.proofs.Asking.{questions_passed, passes_questions, went_on}
 use Rattle.cards.proofs.Records.{Fit, sealed_length}
 
 pub take_overwrite : (p : ℕ) (xs m : List ℕ) → p ≤ length m → take (p + length xs) (overwrite p xs m) ≡ take p m ++ xs
@@ -32,10 +35,18 @@ pub record AppendPassed (r n p b m k : ℕ) : Type 0 where
   pub number : k ≡ n
 
 pub append_passed : (r n p b m k : ℕ) → append_questions r n p b m ≡ Ok k → AppendPassed r n p b m k
-append_passed r n p b m k h = record { few = grind (arith, nat_tests); short = grind (arith, nat_tests); room = grind (arith, nat_tests); number = grind (arith, nat_tests) }
+append_passed r n p b m k h =
+    let x = went_on (sheet_questions n b) (at_record n p) (cond (leb (p + (9 + b + r) + (9 + r)) m) (Ok n) (Err (fault 9 2 n p))) k h in
+    let q = questions_passed n b x.0 in
+    let e = x.1 in
+    record { few = q.0; short = q.1; room = grind (arith, nat_tests); number = grind (arith, nat_tests) }
 
 pub append_passes : (r n p b m : ℕ) → n < 512 → b ≤ 4096 → p + (9 + b + r) + (9 + r) ≤ m → append_questions r n p b m ≡ Ok n
-append_passes r n p b m h i j = grind (arith, nat_tests)
+append_passes r n p b m h i j =
+    let t : leb (p + (9 + b + r) + (9 + r)) m ≡ true = grind (arith, nat_tests) in
+    let room : Result ℕ Fault = cond (leb (p + (9 + b + r) + (9 + r)) m) (Ok n) (Err (fault 9 2 n p)) in
+    ap (λ q. goes_on q (at_record n p) room) (passes_questions n b h i)
+    ∙ ap (λ z. cond z (Ok n) (Err (fault 9 2 n p))) t
 
 pub close_passed : (r n p m k : ℕ) → close_questions r n p m ≡ Ok k → k ≡ p + (9 + r)
 close_passed r n p m k h = grind (arith, nat_tests)

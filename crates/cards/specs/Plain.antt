@@ -1,8 +1,9 @@
 -- The plain writer: what it keeps, how it answers each call, and what a call leaves.
-use Rattle.std.specs.Prelude.{ℕ, ◌+◌, cond, List, [], ◌∷◌, ◌++◌, length, take, drop, Ok, Err, Result, ◌==◌, nat_le, nat_lt}
+use Rattle.std.specs.Prelude.{ℕ, ◌+◌, cond, List, [], ◌∷◌, ◌++◌, length, take, drop, Ok, Err, Result, ◌==◌, nat_le}
 use Rattle.sealer.specs.Sealing.{Sealing}
 use Rattle.cards.specs.Faults.{Fault, fault}
 use Rattle.cards.specs.Format.{Sheet, header, nonce, sheet_record, end_record}
+use Rattle.cards.specs.Questions.{sheet_questions, goes_on, at_record}
 
 pub record Plain : Type 0 where
   pub key : List ℕ
@@ -49,13 +50,10 @@ start_medium S k number m = left_by (start S k number m) (started S k number m).
 -- append's questions, of n sheets, a place, a body's length and a medium's length
 abbrev pub append_questions : ℕ → ℕ → ℕ → ℕ → ℕ → Result ℕ Fault
 append_questions r n p b m =
-    cond (nat_lt n 512)
-    (cond (nat_le b 4096)
+    goes_on (sheet_questions n b) (at_record n p)
     (cond (nat_le (p + (9 + b + r) + (9 + r)) m)
     (Ok n)
     (Err (fault 9 2 n p)))
-    (Err (fault 7 2 n p)))
-    (Err (fault 8 2 n p))
 
 abbrev pub append_answer : Sealing → Plain → Sheet → Result ℕ Fault
 append_answer S w s = append_questions S.width (count w) w.place (length s.body) (length w.medium)

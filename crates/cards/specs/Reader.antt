@@ -1,11 +1,12 @@
 -- The reader: what check, count, sheet and find answer.
-use Rattle.std.specs.Prelude.{◌≡◌, ℕ, zero, suc, ◌+◌, ◌*◌, ◌<◌, ◌≤◌, cond, ◌&&◌, List, [], ◌∷◌, ◌++◌, length, take, drop, replicate, Some, None, Ok, Err, Option, Result, ◌==◌, ◌≢◌, nat_le, nat_lt, slice_index}
+use Rattle.std.specs.Prelude.{◌≡◌, ℕ, if◌then◌else◌, zero, suc, ◌+◌, ◌*◌, ◌<◌, ◌≤◌, cond, ◌&&◌, List, [], ◌∷◌, ◌++◌, length, take, drop, replicate, Some, None, Ok, Err, Option, Result, ◌==◌, ◌≢◌, nat_le, nat_lt, slice_index}
 use Rattle.std.specs.List.{between}
 use Rattle.std.specs.Str.{bytes_eq}
 use Rattle.sealer.specs.Seal.{scratch_bytes}
 use Rattle.sealer.specs.Sealing.{Sealing}
 use Rattle.cards.specs.Faults.{Fault, fault, and_then}
 use Rattle.cards.specs.Format.{mark, nonce, Sheet, a_sheet}
+use Rattle.cards.specs.Questions.{sheet_questions, goes_on, at_field}
 
 -- the fields of the record at the front of the rest of a card
 abbrev pub kind_of : List ℕ → ℕ
@@ -41,11 +42,8 @@ parse_parts r n p rest x = cond (nat_le (9 + length_of rest + r) (length rest)) 
 
 abbrev pub parse_sheet : ℕ → ℕ → ℕ → List ℕ → Result Record Fault
 parse_sheet r n p rest =
-    cond (nat_lt n 512)
-    (cond (nat_le (length_of rest) 4096)
+    goes_on (sheet_questions n (length_of rest)) (at_field n p)
     (parse_parts r n p rest (sheet (cell_of rest) (edition_of rest) (body_of rest) (tag_of r rest)))
-    (Err (fault 7 2 n (p + 7))))
-    (Err (fault 8 2 n p))
 
 abbrev pub parse_end : ℕ → ℕ → ℕ → List ℕ → Result Record Fault
 parse_end r n p rest =
@@ -152,9 +150,14 @@ sheet_at S key h i p rest buffer =
     (unseal (S.opens key (nonce h i) (h ++ head_of rest) (body_of rest) (tag_of S.width rest)) (λ m. a_sheet (cell_of rest) (edition_of rest) m) (fault 6 1 i (p + 9)))
     (Err (fault 4 1 i (p + 9)))
 
--- all questions of sheet i
-abbrev pub sheet_answer : Sealing → Card → ℕ → ℕ → Result Sheet Fault
-sheet_answer S c i buffer =
+-- a body, or n zeros
+abbrev pub body_or_zeros : Option (List ℕ) → ℕ → List ℕ
+body_or_zeros (Some m) n = m
+body_or_zeros None n = replicate n 0
+
+-- sheet i opened, where the buffer has so many bytes: the sheet, or the first no
+abbrev pub sheet_opened : Sealing → Card → ℕ → ℕ → Result Sheet Fault
+sheet_opened S c i buffer =
     let p = place_of c.width c.bytes i in
     cond (c.version == S.version && c.width == S.width)
     (cond (nat_lt i c.count)
@@ -162,19 +165,32 @@ sheet_answer S c i buffer =
     (Err (fault 16 3 i 0)))
     (Err (fault 12 3 i 0))
 
--- the buffer that sheet i leaves: its body, or zeros where the tag disagrees, and beyond them what it held
-abbrev pub body_or_zeros : Option (List ℕ) → ℕ → List ℕ
-body_or_zeros (Some m) n = m
-body_or_zeros None n = replicate n 0
+-- what sheet answers of a sheet: its cell, its edition, and how many bytes its body has
+pub record Heading : Type 0 where
+  pub cell : ℕ
+  pub edition : ℕ
+  pub size : ℕ
 
-abbrev pub sheet_buffer : Sealing → Card → ℕ → List ℕ → List ℕ
-sheet_buffer S c i buffer =
-    let p = place_of c.width c.bytes i in
-    let rest = drop p c.bytes in
-    let h = take 13 c.bytes in
-    cond (c.version == S.version && (c.width == S.width && (nat_lt i c.count && nat_le (length_of rest) (length buffer))))
-    (body_or_zeros (S.opens c.key (nonce h i) (h ++ head_of rest) (body_of rest) (tag_of S.width rest)) (length_of rest) ++ drop (length_of rest) buffer)
-    buffer
+abbrev pub heading : Sheet → Heading
+heading s = record { cell = s.cell; edition = s.edition; size = length s.body }
+
+-- what sheet answers, and what the buffer then holds
+pub record Drawn : Type 0 where
+  pub answer : Result Heading Fault
+  pub buffer : List ℕ
+
+-- an opened sheet goes to the front of the buffer; where the tag disagrees zeros go there, as many as the body has bytes, which are n; after any other no the buffer stays
+abbrev pub drawn : Result Sheet Fault → ℕ → List ℕ → Drawn
+drawn (Ok s) n b = record { answer = Ok (heading s); buffer = s.body ++ drop (length s.body) b }
+drawn (Err f) n b = record { answer = Err f; buffer = if f.number == 6 then replicate n 0 ++ drop n b else b }
+
+-- how many bytes the body of sheet i has
+abbrev pub size_of : Card → ℕ → ℕ
+size_of c i = length_of (drop (place_of c.width c.bytes i) c.bytes)
+
+-- sheet i of a card, drawn into a buffer
+abbrev pub sheet_drawn : Sealing → Card → ℕ → List ℕ → Drawn
+sheet_drawn S c i b = drawn (sheet_opened S c i (length b)) (size_of c i) b
 
 -- cell and edition of sheet i
 abbrev pub cell_at : Card → ℕ → ℕ

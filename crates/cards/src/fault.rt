@@ -1,5 +1,6 @@
 ghost use Rattle.std.specs.Prelude.{◌≡◌, Some};
 ghost use Rattle.cards.specs.Faults.{at, record_number, card_number, of_card, refused_text};
+ghost use Rattle.cards.specs.Questions.{field_place};
 ghost use Rattle.cards.specs.declared.fault.CardFault.TheVariants as card;
 ghost use Rattle.cards.specs.declared.fault.RecordFault.TheVariants as rec;
 
@@ -53,6 +54,17 @@ impl RecordNo {
         ensures { result ≡ rec.Own (at self «record» place) }
     {
         RecordFault::Own(At::new(self, record, place))
+    }
+
+    /// Where in a record the field begins that it is about: 7 for the length, 1 for the cell of an end record, 0 for all else.
+    pub fn field(&self) -> usize
+        ensures { result ≡ field_place self.now }
+    {
+        match self {
+            RecordNo::BodyLong => 7,
+            RecordNo::End => 1,
+            _ => 0,
+        }
     }
 
     // The number of the question that got it.

@@ -9,11 +9,6 @@ pub const HEADER_BYTES: usize = 13;
 
 pub const HEAD_BYTES: usize = 9;
 
-// The most sheets of a card, and the most bytes of a body.
-pub const MOST_SHEETS: usize = 512;
-
-pub const MOST_BODY: usize = 4096;
-
 // The header of a card.
 pub fn make_header(version: u16, number: u64) -> [u8; 13]
     ensures { result ≡ header_of version number }

@@ -4,21 +4,21 @@ use Rattle.std.proofs.lemmas.Bool.Decides.{nat_tests}
 use Rattle.sealer.specs.Sealing.{Sealing, Laws}
 use Rattle.cards.specs.Faults.{Fault, fault, and_then}
 use Rattle.cards.specs.Format.{Sheet, a_sheet, nonce}
-use Rattle.cards.specs.Reader.{Card, check, unseal, place_of, sheet_answer, sheet_at, cell_of, edition_of, length_of, head_of, body_of, tag_of}
+use Rattle.cards.specs.Reader.{Card, check, unseal, place_of, sheet_opened, sheet_at, cell_of, edition_of, length_of, head_of, body_of, tag_of}
 use Rattle.cards.proofs.Parsing.{body_length}
 use Rattle.cards.proofs.Places.{opening, never_six}
-use Rattle.reader.specs.Heads.{a_head, fields, headed, NoMismatch}
+use Rattle.reader.specs.Heads.{a_head, fields, titled, NoMismatch}
 use Rattle.reader.specs.Said.{open_answer}
 use Rattle.reader.specs.declared.rest.SheetHead.{SheetHead}
 use Rattle.reader.proofs.Opening.{opened_length}
 
-head_told : (long : Bool) (z : Option (List ℕ)) (c e l : ℕ) (f f' : Fault) → ((m : List ℕ) → z ≡ Some m → length m ≡ l) → and_then (cond long (unseal {X = Unit {0}} z (λ _. tt) f) (Err f')) (λ _. Ok (a_head c e l)) ≡ headed (cond long (unseal z (λ m. a_sheet c e m) f) (Err f'))
+head_told : (long : Bool) (z : Option (List ℕ)) (c e l : ℕ) (f f' : Fault) → ((m : List ℕ) → z ≡ Some m → length m ≡ l) → and_then (cond long (unseal {X = Unit {0}} z (λ _. tt) f) (Err f')) (λ _. Ok (a_head c e l)) ≡ titled (cond long (unseal z (λ m. a_sheet c e m) f) (Err f'))
 head_told true (Some m) c e l f f' sized = ap (λ k. Ok (a_head c e k)) (sym (sized m refl))
 head_told true None c e l f f' sized = refl
 head_told false z c e l f f' sized = refl
 
 -- the body of the sheet at the front opened into a buffer of o bytes
-pub sheet_told : (S : Sealing) (L : Laws S) (key h rest : List ℕ) (i p o : ℕ) (a : Result (Unit {0}) Fault) → 9 + length_of rest + S.width ≤ length rest → a ≡ open_answer (opening S key h i rest) (length (body_of rest)) o i (p + 9) → and_then a (λ _. Ok (fields rest)) ≡ headed (sheet_at S key h i p rest o)
+pub sheet_told : (S : Sealing) (L : Laws S) (key h rest : List ℕ) (i p o : ℕ) (a : Result (Unit {0}) Fault) → 9 + length_of rest + S.width ≤ length rest → a ≡ open_answer (opening S key h i rest) (length (body_of rest)) o i (p + 9) → and_then a (λ _. Ok (fields rest)) ≡ titled (sheet_at S key h i p rest o)
 sheet_told S L key h rest i p o a w is =
     let size = body_length S.width rest w in
     let sized : (m : List ℕ) → opening S key h i rest ≡ Some m → length m ≡ length_of rest = λ m e. opened_length S L key (nonce h i) (h ++ head_of rest) (body_of rest) (tag_of S.width rest) m e ∙ size in
@@ -33,14 +33,14 @@ module _ (S : Sealing) (c : Card) (i : ℕ) (hv : c.version ≡ S.version) (hr :
   tests : (eqb c.version S.version ≡ true) × (eqb c.width S.width ≡ true) × (ltb i c.count ≡ true)
   tests = (grind (arith, nat_tests), grind (arith, nat_tests), grind (arith, nat_tests))
 
-  pub answer_passes : (o : ℕ) → sheet_answer S c i o ≡ sheet_at S c.key (take 13 c.bytes) i at (drop at c.bytes) o
+  pub answer_passes : (o : ℕ) → sheet_opened S c i o ≡ sheet_at S c.key (take 13 c.bytes) i at (drop at c.bytes) o
   answer_passes o = let t0 = tests.0 in let t1 = tests.1 in let t2 = tests.2 in rw (t0, t1, t2) refl
 
-headed_refused : (a : Result Sheet Fault) (f : Fault) → headed a ≡ Err f → a ≡ Err f
+headed_refused : (a : Result Sheet Fault) (f : Fault) → titled a ≡ Err f → a ≡ Err f
 headed_refused (Ok s) f e = absurd (let z : ◌≡◌ {A = ℕ} 0 1 = cc in omega arith)
 headed_refused (Err f') f e = ap Err (cc)
 
 -- under the sealer that passed the card, the tag agrees
-pub no_mismatch : (S : Sealing) (c : Card) (i o : ℕ) (a : Result SheetHead Fault) → a ≡ headed (sheet_answer S c i o) → (key : List ℕ) (scratch : ℕ) (bytes : List ℕ) → check S key scratch bytes ≡ Ok c → NoMismatch a
+pub no_mismatch : (S : Sealing) (c : Card) (i o : ℕ) (a : Result SheetHead Fault) → a ≡ titled (sheet_opened S c i o) → (key : List ℕ) (scratch : ℕ) (bytes : List ℕ) → check S key scratch bytes ≡ Ok c → NoMismatch a
 no_mismatch S c i o (Ok x) is key scratch bytes h = tt
-no_mismatch S c i o (Err f) is key scratch bytes h = λ n. never_six S key bytes scratch c h i o f (headed_refused (sheet_answer S c i o) f (sym is)) n
+no_mismatch S c i o (Err f) is key scratch bytes h = λ n. never_six S key bytes scratch c h i o f (headed_refused (sheet_opened S c i o) f (sym is)) n

@@ -2,7 +2,7 @@
 use Rattle.std.specs.Prelude.{◌≡◌, ℕ, List, length, Ok, Err, Result}
 use Rattle.cards.specs.Faults.{Fault}
 use Rattle.cards.specs.Format.{Sheet}
-use Rattle.cards.specs.Reader.{cell_of, edition_of, length_of}
+use Rattle.cards.specs.Reader.{Heading, cell_of, edition_of, length_of}
 use Rattle.reader.specs.declared.rest.SheetHead.{SheetHead}
 
 -- a head of these fields
@@ -13,10 +13,15 @@ a_head c e l = record { cell = c; edition = e; «length» = l }
 abbrev pub fields : List ℕ → SheetHead
 fields rest = a_head (cell_of rest) (edition_of rest) (length_of rest)
 
--- an answer of sheet with the length of the body in place of the body
-abbrev pub headed : Result Sheet Fault → Result SheetHead Fault
-headed (Ok s) = Ok (a_head s.cell s.edition (length s.body))
+-- what sheet answers, as the program has it
+abbrev pub headed : Result Heading Fault → Result SheetHead Fault
+headed (Ok h) = Ok (a_head h.cell h.edition h.size)
 headed (Err f) = Err f
+
+-- an opened sheet with the length of its body in place of the body
+abbrev pub titled : Result Sheet Fault → Result SheetHead Fault
+titled (Ok s) = Ok (a_head s.cell s.edition (length s.body))
+titled (Err f) = Err f
 
 -- the tag was not what the answer refuses
 abbrev pub NoMismatch : {X : Type 0} → Result X Fault → Type 0

@@ -2,7 +2,7 @@ ghost use Rattle.std.specs.Prelude.{◌≡◌, ◌+◌, ◌≤◌, ◌++◌, len
 ghost use Rattle.cards.specs.Faults.{at, fault, passed, recorded};
 ghost use Rattle.cards.specs.Format.{nonce as nonce_of};
 ghost use Rattle.cards.specs.Reader.{body_of, head_of, length_of, sheet_at, tag_of, unseal};
-ghost use Rattle.reader.specs.Heads.{headed};
+ghost use Rattle.reader.specs.Heads.{titled};
 ghost use Rattle.reader.specs.Said.{said, tried, open_answer, open_output};
 
 use crate::rest::{Record, Rest, SheetHead};
@@ -102,7 +102,7 @@ impl CardKey<'_> {
         buffer: &mut [u8],
     ) -> Result<SheetHead, RecordFault>
         requires { 9 + length_of rest.now.bytes.now + C.meaning.width ≤ length rest.now.bytes.now }
-        ensures answer { recorded result ≡ headed (sheet_at C.meaning self.now.key.now self.now.header.now rest.now.number rest.now.place rest.now.bytes.now (length buffer.old)) }
+        ensures answer { recorded result ≡ titled (sheet_at C.meaning self.now.key.now self.now.header.now rest.now.number rest.now.place rest.now.bytes.now (length buffer.old)) }
         ensures buffer { buffer.new ≡ open_output (C.meaning.opens self.now.key.now (nonce_of self.now.header.now rest.now.number) (self.now.header.now ++ head_of rest.now.bytes.now) (body_of rest.now.bytes.now) (tag_of C.meaning.width rest.now.bytes.now)) (length_of rest.now.bytes.now) buffer.old }
     {
         let (body, tag) = rest.body_and_tag(C::WIDTH);

@@ -1,13 +1,14 @@
 ghost use Rattle.std.specs.Prelude.{◌≡◌, ◌+◌, ◌<◌, ◌≤◌, length, drop};
 ghost use Rattle.cards.specs.Faults.{at, recorded};
 ghost use Rattle.cards.specs.declared.RecordFault.TheVariants as rec;
+ghost use Rattle.cards.specs.Questions.{field_place};
 ghost use Rattle.cards.specs.Reader.{body_of, length_of, parse as parse_of, tag_of};
 ghost use Rattle.reader.specs.Heads.{fields};
 ghost use Rattle.reader.specs.Said.{said, asked};
 
 use crate::key::front;
 use crate::rest::{Record, Rest, SheetHead};
-use cards::{HEAD_BYTES, HEADER_BYTES, Kind, MOST_BODY, MOST_SHEETS, RecordFault, RecordNo};
+use cards::{HEAD_BYTES, HEADER_BYTES, Kind, RecordFault, RecordNo, ask_sheet};
 
 impl<'a> Rest<'a> {
     // The rest of a card after its header.
@@ -68,19 +69,20 @@ impl<'a> Rest<'a> {
         requires { (9 ≤ length self.now.bytes.now) × (head ≡ fields self.now.bytes.now) }
         ensures { recorded result ≡ asked kind self.now.number self.now.place self.now.bytes.now }
     {
-        match kind {
-            Kind::Sheet if self.number >= MOST_SHEETS => {
-                Err(RecordNo::SheetsFull.at(self.number, self.place))
-            }
-            Kind::Sheet if head.length > MOST_BODY => {
-                Err(RecordNo::BodyLong.at(self.number, self.place + 7))
-            }
+        let refusal = match kind {
+            Kind::Sheet => ask_sheet(self.number, head.length),
             Kind::End
                 if head.cell as usize != self.number || head.edition != 0 || head.length != 0 => {
-                Err(RecordNo::End.at(self.number, self.place + 1))
+                Err(RecordNo::End)
             }
-            _ => Ok(()),
-        }
+            Kind::End => Ok(()),
+        };
+        let (number, place) = (self.number, self.place);
+        refusal.map_err(
+            |refusal|
+                ensures { result ≡ rec.Own (at refusal number (place + field_place refusal)) }
+            { refusal.at(number, place + refusal.field()) },
+        )
     }
 
     // Its record, under a tag of `width` bytes.

@@ -1,6 +1,6 @@
 ghost use Rattle.std.specs.Prelude.{◌≡◌, ℕ, ◌+◌, ◌<◌, ◌≤◌, List, length, drop, Ok};
 ghost use Rattle.cards.specs.Faults.{told};
-ghost use Rattle.cards.specs.Reader.{check as check_of, place_of, sheet_answer, sheet_buffer};
+ghost use Rattle.cards.specs.Reader.{check as check_of, place_of, sheet_drawn};
 ghost use Rattle.reader.specs.Cards.{shown};
 ghost use Rattle.reader.specs.Heads.{headed, NoMismatch};
 
@@ -29,8 +29,8 @@ pub fn sheet<C: Sealer>(
     i: usize,
     buffer: &mut [u8],
 ) -> Result<SheetHead, CardFault>
-    ensures answer { told result ≡ headed (sheet_answer C.meaning (shown card.now) i (length buffer.old)) }
-    ensures buffer { buffer.new ≡ sheet_buffer C.meaning (shown card.now) i buffer.old }
+    ensures answer { told result ≡ headed (sheet_drawn C.meaning (shown card.now) i buffer.old).answer }
+    ensures buffer { buffer.new ≡ (sheet_drawn C.meaning (shown card.now) i buffer.old).buffer }
     ensures agrees { (key : List ℕ) (scratch : ℕ) (bytes : List ℕ) → check_of C.meaning key scratch bytes ≡ Ok (shown card.now) → NoMismatch (told result) }
 {
     if card.version != C::VERSION || card.width != C::WIDTH {

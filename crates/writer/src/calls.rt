@@ -1,13 +1,14 @@
 ghost use Rattle.std.specs.Prelude.{◌≡◌};
-ghost use Rattle.cards.specs.Faults.{told, recorded};
+ghost use Rattle.cards.specs.Faults.{at, told, recorded};
+ghost use Rattle.cards.specs.declared.RecordFault.TheVariants as rec;
 ghost use Rattle.cards.specs.Format.{a_sheet};
 ghost use Rattle.cards.specs.Plain.{Plain, start as plain_start, start_medium, append_answer, append_questions, appended, close_answer, closed_medium, left_by};
 ghost use Rattle.writer.specs.Stands.{Stands, Starts, Back, closing};
 
 use crate::writer::{Unclosed, Writer};
 use cards::{
-    CardFault, CardNo, HEAD_BYTES, HEADER_BYTES, Kind, MOST_BODY, MOST_SHEETS, RecordFault,
-    RecordNo, make_head, make_header,
+    CardFault, CardNo, HEAD_BYTES, HEADER_BYTES, Kind, RecordFault, RecordNo, ask_sheet, make_head,
+    make_header,
 };
 use sealer::{SealFault, Sealer};
 use std::marker::PhantomData;
@@ -40,12 +41,12 @@ impl<C: Sealer + Drop> Writer<C> {
     fn ask(&self, body: usize, medium: usize) -> Result<usize, RecordFault>
         ensures { recorded result ≡ append_questions C.meaning.width self.now.count self.now.place body medium }
     {
-        if self.count >= MOST_SHEETS {
-            return Err(RecordNo::SheetsFull.at(self.count, self.place));
-        }
-        if body > MOST_BODY {
-            return Err(RecordNo::BodyLong.at(self.count, self.place));
-        }
+        let (count, place) = (self.count, self.place);
+        ask_sheet(count, body).map_err(
+            |refusal|
+                ensures { result ≡ rec.Own (at refusal count place) }
+            { refusal.at(count, place) },
+        )?;
         let end_record = HEAD_BYTES + C::WIDTH;
         if medium < self.place + (end_record + body) + end_record {
             return Err(RecordNo::MediumShort.at(self.count, self.place));

@@ -2,7 +2,7 @@ use Rattle.std.proofs.Common.{◌≡◌, length, take, Err, sym, ap, ◌∙◌, 
 use Rattle.std.proofs.lemmas.Result.{err_from_is_err_and}
 use Rattle.sealer.specs.Sealing.{Sealing}
 use Rattle.cards.specs.Faults.{told}
-use Rattle.cards.specs.Reader.{sheet_answer, sheet_at}
+use Rattle.cards.specs.Reader.{sheet_opened, sheet_at}
 use Rattle.reader.specs.Cards.{shown}
 use Rattle.reader.specs.Heads.{headed}
 use Rattle.reader.proofs.Bodies.{answer_passes, no_mismatch}
@@ -24,7 +24,7 @@ open_sheet-requires g c =
     omega (arith, f, (c.WIDTH.ensures ∙ g.met.C.Sealer.width_is))
 
 -- a refusal of open_sheet, to the card
-refused_is : (g : given.Over) (c : After-from_residual g) → told c.from_residual.result ≡ headed (sheet_answer (cipher g) (shown c.args.card.now) c.args.i (length c.args.buffer.now))
+refused_is : (g : given.Over) (c : After-from_residual g) → told c.from_residual.result ≡ headed (sheet_opened (cipher g) (shown c.args.card.now) c.args.i (length c.args.buffer.now))
 refused_is g c =
     let card = c.args.card.now in
     let S = cipher g in

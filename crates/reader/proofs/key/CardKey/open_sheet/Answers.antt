@@ -3,7 +3,7 @@ use Rattle.sealer.specs.Sealing.{Sealing, Laws}
 use Rattle.cards.specs.Faults.{and_then, passed}
 use Rattle.cards.specs.Format.{nonce}
 use Rattle.cards.specs.Reader.{sheet_at, head_of, body_of, tag_of}
-use Rattle.reader.specs.Heads.{fields, headed}
+use Rattle.reader.specs.Heads.{fields, titled}
 use Rattle.reader.specs.Said.{open_answer}
 use Rattle.reader.proofs.Bodies.{sheet_told}
 use Rattle.reader.proofs.key.CardKey.open_sheet.Given as given
@@ -16,7 +16,7 @@ cipher g = g.C.Sealer.meaning
 laws : (g : given.Over) → Laws (cipher g)
 laws g = g.met.C.Sealer.laws
 
-answer_is : (g : given.Over) (c : After-open g) → and_then (passed c.open.result) (λ _. Ok (fields c.args.rest.now.bytes.now)) ≡ headed (sheet_at (cipher g) c.args.self.now.key.now c.args.self.now.header.now c.args.rest.now.number c.args.rest.now.place c.args.rest.now.bytes.now (length c.args.buffer.now))
+answer_is : (g : given.Over) (c : After-open g) → and_then (passed c.open.result) (λ _. Ok (fields c.args.rest.now.bytes.now)) ≡ titled (sheet_at (cipher g) c.args.self.now.key.now c.args.self.now.header.now c.args.rest.now.number c.args.rest.now.place c.args.rest.now.bytes.now (length c.args.buffer.now))
 answer_is g c =
     let key = c.args.self.now in
     let rest = c.args.rest.now in
