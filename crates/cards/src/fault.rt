@@ -1,4 +1,4 @@
-ghost use Rattle.std.specs.Prelude.{◌≡◌, Some};
+ghost use Rattle.std.specs.Prelude.{◌≡◌, ◌≤◌, Some};
 ghost use Rattle.cards.specs.Faults.{at, record_number, card_number, of_card, refused_text};
 ghost use Rattle.cards.specs.Questions.{field_place};
 ghost use Rattle.cards.specs.declared.fault.CardFault.TheVariants as card;
@@ -58,7 +58,8 @@ impl RecordNo {
 
     /// Where in a record the field begins that it is about: 7 for the length, 1 for the cell of an end record, 0 for all else.
     pub fn field(&self) -> usize
-        ensures { result ≡ field_place self.now }
+        ensures field { result ≡ field_place self.now }
+        ensures within { result ≤ 7 }
     {
         match self {
             RecordNo::BodyLong => 7,

@@ -4,11 +4,11 @@ use Rattle.std.proofs.lemmas.Bool.Decides.{nat_tests}
 use Rattle.sealer.specs.Sealing.{Sealing, Laws}
 use Rattle.cards.specs.Faults.{Fault, fault, and_then}
 use Rattle.cards.specs.Format.{Sheet, a_sheet, nonce}
-use Rattle.cards.specs.Reader.{Card, check, unseal, place_of, sheet_opened, sheet_at, cell_of, edition_of, length_of, head_of, body_of, tag_of}
+use Rattle.cards.specs.Reader.{Card, body_or_zeros, check, drawn, unseal, place_of, sheet_opened, sheet_at, cell_of, edition_of, length_of, head_of, body_of, tag_of}
 use Rattle.cards.proofs.Parsing.{body_length}
 use Rattle.cards.proofs.Places.{opening, never_six}
-use Rattle.reader.specs.Heads.{a_head, fields, titled, NoMismatch}
-use Rattle.reader.specs.Said.{open_answer}
+use Rattle.reader.specs.Heads.{a_head, fields, headed, titled, NoMismatch}
+use Rattle.reader.specs.Said.{open_answer, open_output}
 use Rattle.reader.specs.declared.rest.SheetHead.{SheetHead}
 use Rattle.reader.proofs.Opening.{opened_length}
 
@@ -44,3 +44,21 @@ headed_refused (Err f') f e = ap Err (cc)
 pub no_mismatch : (S : Sealing) (c : Card) (i o : ℕ) (a : Result SheetHead Fault) → a ≡ titled (sheet_opened S c i o) → (key : List ℕ) (scratch : ℕ) (bytes : List ℕ) → check S key scratch bytes ≡ Ok c → NoMismatch a
 no_mismatch S c i o (Ok x) is key scratch bytes h = tt
 no_mismatch S c i o (Err f) is key scratch bytes h = λ n. never_six S key bytes scratch c h i o f (headed_refused (sheet_opened S c i o) f (sym is)) n
+
+-- ---- a sheet drawn into a buffer
+
+-- what an opened sheet answers
+pub titled_drawn : (o : Result Sheet Fault) (n : ℕ) (b : List ℕ) → titled o ≡ headed (drawn o n b).answer
+titled_drawn (Ok s) n b = refl
+titled_drawn (Err f) n b = refl
+
+buffer_drawn : (long : Bool) (z : Option (List ℕ)) (c e n i p : ℕ) (b : List ℕ) → ((m : List ℕ) → z ≡ Some m → length m ≡ n) → cond long (body_or_zeros z n ++ drop n b) b ≡ (drawn (cond long (unseal z (λ m. a_sheet c e m) (fault 6 1 i p)) (Err (fault 4 1 i p))) n b).buffer
+buffer_drawn true (Some m) c e n i p b sized = ap (λ k. m ++ drop k b) (sym (sized m refl))
+buffer_drawn true None c e n i p b sized = refl
+buffer_drawn false z c e n i p b sized = refl
+
+-- the buffer that the body of the sheet at the front is opened into
+pub opened_drawn : (S : Sealing) (L : Laws S) (key h rest : List ℕ) (i p : ℕ) (b : List ℕ) → 9 + length_of rest + S.width ≤ length rest → open_output (opening S key h i rest) (length_of rest) b ≡ (drawn (sheet_at S key h i p rest (length b)) (length_of rest) b).buffer
+opened_drawn S L key h rest i p b w =
+    let sized : (m : List ℕ) → opening S key h i rest ≡ Some m → length m ≡ length_of rest = λ m e. opened_length S L key (nonce h i) (h ++ head_of rest) (body_of rest) (tag_of S.width rest) m e ∙ body_length S.width rest w in
+    buffer_drawn (leb (length_of rest) (length b)) (opening S key h i rest) (cell_of rest) (edition_of rest) (length_of rest) i (p + 9) b sized

@@ -1,7 +1,6 @@
 ghost use Rattle.std.specs.Prelude.{◌≡◌, ◌+◌, ◌<◌, ◌≤◌, length, drop};
 ghost use Rattle.cards.specs.Faults.{at, recorded};
 ghost use Rattle.cards.specs.declared.RecordFault.TheVariants as rec;
-ghost use Rattle.cards.specs.Questions.{field_place};
 ghost use Rattle.cards.specs.Reader.{body_of, length_of, parse as parse_of, tag_of};
 ghost use Rattle.reader.specs.Heads.{fields};
 ghost use Rattle.reader.specs.Said.{said, asked};
@@ -69,7 +68,7 @@ impl<'a> Rest<'a> {
         requires { (9 ≤ length self.now.bytes.now) × (head ≡ fields self.now.bytes.now) }
         ensures { recorded result ≡ asked kind self.now.number self.now.place self.now.bytes.now }
     {
-        let refusal = match kind {
+        let asked = match kind {
             Kind::Sheet => ask_sheet(self.number, head.length),
             Kind::End
                 if head.cell as usize != self.number || head.edition != 0 || head.length != 0 => {
@@ -77,12 +76,11 @@ impl<'a> Rest<'a> {
             }
             Kind::End => Ok(()),
         };
-        let (number, place) = (self.number, self.place);
-        refusal.map_err(
-            |refusal|
-                ensures { result ≡ rec.Own (at refusal number (place + field_place refusal)) }
-            { refusal.at(number, place + refusal.field()) },
-        )
+        // No map_err: a closure doesn't know that the sum fits.
+        match asked {
+            Ok(()) => Ok(()),
+            Err(refusal) => Err(refusal.at(self.number, self.place + refusal.field())),
+        }
     }
 
     // Its record, under a tag of `width` bytes.
