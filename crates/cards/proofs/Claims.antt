@@ -1,11 +1,12 @@
 -- The claims on cards.
-use Rattle.std.proofs.Common.{◌≡◌, ℕ, suc, ◌+◌, ◌≤◌, List, [], ◌∷◌, ◌++◌, length, sym, ap, subst, le_refl, arith}
+use Rattle.std.proofs.Common.{◌≡◌, ℕ, suc, ◌+◌, ◌≤◌, List, [], ◌∷◌, ◌++◌, length, take, Ok, Result, sym, ap, subst, le_refl, arith}
 use Rattle.std.specs.List.{AllByRecursion}
 use Rattle.sealer.specs.Sealing.{Sealing, Laws}
 use Rattle.cards.specs.Format.{Sheet, card}
-use Rattle.cards.specs.Plain.{Plain}
-use Rattle.cards.specs.Runs.{run, accepted}
-use Rattle.cards.specs.Claims.{Well, Reads, Gives, ReadsAsWritten, AllWritable, PassedWasWritten, RunsHold, CardClaims}
+use Rattle.cards.specs.Faults.{Fault}
+use Rattle.cards.specs.Plain.{Plain, start}
+use Rattle.cards.specs.Runs.{Call, run, accepted}
+use Rattle.cards.specs.Claims.{Well, Reads, Gives, ReadsAsWritten, AllWritable, PassedWasWritten, WellCall, IsRun, RunsHold, CardClaims}
 use Rattle.cards.specs.Questions.{PassQuestions}
 use Rattle.cards.specs.Reader.{check_bytes}
 use Rattle.cards.proofs.Records.{Fit}
@@ -86,4 +87,17 @@ module _ (S : Sealing) (L : Laws S) where
             let z = run_shows S L key number calls w kept well n e in
             let c = subst (Closed S L key number n (run S w calls).medium) (ap (λ (t : List Sheet). t ++ accepted calls (run S w calls).answers) none) z in
             subst (λ (t : List ℕ). Reads S key t (accepted calls (run S w calls).answers)) (sym c.is) (card_reads S L key number (accepted calls (run S w calls).answers) y.key c.fit c.few);
+      }
+
+  -- calls that were made from an accepted start, with what they answered and left
+  pub is_run : (key : List ℕ) (number : ℕ) (before : List ℕ) (w : Plain) → start S key number before ≡ Ok w → (calls : List Call) (answers : List (Result ℕ Fault)) (medium : List ℕ) → AllByRecursion WellCall calls → answers ≡ (run S w calls).answers → medium ≡ (run S w calls).medium → IsRun S key w calls answers medium
+  is_run key number before w starts calls answers medium well ea em =
+      let x = runs_hold key number before w starts calls in
+      record {
+        answers_are = ea;
+        medium_is = em;
+        fresh = x.fresh;
+        reads = λ n e.
+            subst (λ (m : List ℕ). Reads S key (take n m) (accepted calls answers)) (sym em)
+            (subst (λ (as' : List (Result ℕ Fault)). Reads S key (take n (run S w calls).medium) (accepted calls as')) (sym ea) (x.reads well n e));
       }

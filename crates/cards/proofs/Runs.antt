@@ -118,3 +118,19 @@ module _ (S : Sealing) (L : Laws S) (key : List ℕ) (number : ℕ) where
       let z = run_shows (to_write sheets) w kept (well_calls sheets well) acc.size acc.closes in
       let c = subst (Closed acc.size (run S w (to_write sheets)).medium) (accepted_all sheets w acc.all) z in
       record { writer = w; starts = start_passes S key number medium hk room; accepts = acc.all; size = acc.size; closes = acc.closes; bytes_are = sym c.is }
+
+-- ---- the calls that were made
+
+-- a run of the calls that were made is the run of all: an accepted close comes last
+pub run_made : (S : Sealing) (cs : List Call) (w : Plain) → run S w (take (length (run S w cs).answers) cs) ≡ run S w cs
+run_made S [] w = refl
+run_made S (append s ∷ cs) w =
+    let v : Plain = left_by (append_answer S w s) (appended S w s) w in
+    ap (answered (append_answer S w s) (next_nonce w)) (run_made S cs v)
+run_made S (close ∷ cs) w = by (run_made S cs w) (close_answer S w) refl
+  where
+    by : run S w (take (length (run S w cs).answers) cs) ≡ run S w cs → (a : Result ℕ Fault) → close_answer S w ≡ a → run S w (take (length (closing S w a (run S w cs)).answers) (close ∷ cs)) ≡ closing S w a (run S w cs)
+    by ih (Ok n) e = ap (λ a. closing S w a (ended w)) e
+    by ih (Err f) e =
+        ap (λ a. closing S w a (run S w (take (length (run S w cs).answers) cs))) e
+        ∙ ap (answered (Err f) (next_nonce w)) ih

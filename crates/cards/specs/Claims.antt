@@ -76,6 +76,13 @@ pub record RunHolds (S : Sealing) (key : List ℕ) (w : Plain) (calls : List Cal
   pub fresh : Distinct (run S w calls).nonces
   pub reads : AllByRecursion WellCall calls → (n : ℕ) → (run S w calls).closed ≡ Some n → Reads S key (take n (run S w calls).medium) (accepted calls (run S w calls).answers)
 
+-- The calls that were made from an accepted start, what they answered and the medium that they left are a run: answers and medium are the plain writer's, no nonce is sealed under twice, and a closed card reads as the accepted sheets, in order.
+pub record IsRun (S : Sealing) (key : List ℕ) (w : Plain) (calls : List Call) (answers : List (Result ℕ Fault)) (medium : List ℕ) : Type 0 where
+  pub answers_are : answers ≡ (run S w calls).answers
+  pub medium_is : medium ≡ (run S w calls).medium
+  pub fresh : Distinct (run S w calls).nonces
+  pub reads : (n : ℕ) → (run S w calls).closed ≡ Some n → Reads S key (take n medium) (accepted calls answers)
+
 abbrev pub RunsHold : Sealing → Type 0
 RunsHold S =
     (key : List ℕ) (number : ℕ) (medium : List ℕ) (w : Plain) → start S key number medium ≡ Ok w → (calls : List Call) → RunHolds S key w calls

@@ -68,6 +68,10 @@ appended S w s = record {
   place = w.place + (9 + length s.body + S.width);
 }
 
+-- the plain writer after an append, accepted or refused
+abbrev pub after_append : Sealing → Plain → Sheet → Plain
+after_append S w s = left_by (append_answer S w s) (appended S w s) w
+
 abbrev pub close_questions : ℕ → ℕ → ℕ → ℕ → Result ℕ Fault
 close_questions r n p m = cond (nat_le (p + (9 + r)) m) (Ok (p + (9 + r))) (Err (fault 9 3 n p))
 
@@ -77,3 +81,7 @@ close_answer S w = close_questions S.width (count w) w.place (length w.medium)
 -- the medium after an accepted close
 abbrev pub closed_medium : Sealing → Plain → List ℕ
 closed_medium S w = overwrite w.place (end_record S w.key w.header (count w)) w.medium
+
+-- the medium after a close, accepted or refused
+abbrev pub after_close : Sealing → Plain → List ℕ
+after_close S w = left_by (close_answer S w) (closed_medium S w) w.medium

@@ -10,23 +10,24 @@ pub data Call : Type 0 where
   append : Sheet → Call
   close : Call
 
--- what a run of calls comes to: the answers, the nonces that were sealed under, the medium, and the length of the card if it was closed
+-- what a run of calls comes to: the answers, the nonces that were sealed under, the medium, the length of the card if it was closed, and the plain writer that is left if it was not
 pub record Run : Type 0 where
   pub answers : List (Result ℕ Fault)
   pub nonces : List (List ℕ)
   pub medium : List ℕ
   pub closed : Option ℕ
+  pub left : Option Plain
 
 -- an answer, and a nonce if it accepts, before the rest of a run
 abbrev pub answered : Result ℕ Fault → List ℕ → Run → Run
-answered a n x = record { answers = a ∷ x.answers; nonces = left_by a (n ∷ x.nonces) x.nonces; medium = x.medium; closed = x.closed }
+answered a n x = record { answers = a ∷ x.answers; nonces = left_by a (n ∷ x.nonces) x.nonces; medium = x.medium; closed = x.closed; left = x.left }
 
 abbrev pub ended : Plain → Run
-ended w = record { answers = []; nonces = []; medium = w.medium; closed = None }
+ended w = record { answers = []; nonces = []; medium = w.medium; closed = None; left = Some w }
 
 -- an accepted close comes last
 abbrev pub closing : Sealing → Plain → Result ℕ Fault → Run → Run
-closing S w (Ok n) rest = record { answers = Ok n ∷ []; nonces = next_nonce w ∷ []; medium = closed_medium S w; closed = Some n }
+closing S w (Ok n) rest = record { answers = Ok n ∷ []; nonces = next_nonce w ∷ []; medium = closed_medium S w; closed = Some n; left = None }
 closing S w (Err f) rest = answered (Err f) (next_nonce w) rest
 
 abbrev pub run : Sealing → Plain → List Call → Run

@@ -1,40 +1,44 @@
 -- One call after another of a run.
-use Rattle.std.proofs.Common.{◌≡◌, ℕ, ◌+◌, ◌<◌, min, List, [], ◌∷◌, ◌++◌, map, length, get_or, take, drop, set, Err, Result, sym, ap, ◌∙◌, subst, ⊎_elim, arith, Bor}
+use Rattle.std.proofs.Common.{◌≡◌, ℕ, ◌+◌, ◌<◌, ◌≤◌, min, List, [], ◌∷◌, ◌++◌, map, length, get_or, take, drop, set, Ok, Err, Result, sym, ap, ◌∙◌, subst, ⊎_elim, take-take, length-take-le, arith, Bor}
 use Rattle.std.proofs.str.Laws.{order}
-use Rattle.std.proofs.lemmas.List.{append_assoc, drop-drop, drop-set-lt, drop_more, map-append, take_all}
-use Rattle.sealer.specs.Sealing.{Sealing}
+use Rattle.std.specs.List.{AllByRecursion}
+use Rattle.std.proofs.ByRecursion.{All-push}
+use Rattle.std.proofs.lemmas.List.{append_assoc, drop-drop, drop-set-lt, drop_more, length-map, map-append, take_all, take-map, take_more}
+use Rattle.sealer.specs.Sealing.{Sealing, Laws}
 use Rattle.cards.specs.Faults.{Fault, told, of_card}
 use Rattle.cards.specs.Format.{Sheet, a_sheet}
-use Rattle.cards.specs.Plain.{Plain, append_answer, appended, close_answer, closed_medium, left_by, next_nonce}
+use Rattle.cards.specs.Claims.{WellCall, IsRun}
+use Rattle.cards.specs.Plain.{Plain, start, after_append, append_answer, appended, close_answer, closed_medium, left_by, next_nonce}
 use Rattle.cards.specs.Runs.{Run, run, answered, closing, append, close}
 use Rattle.cards.specs.Runs as plain
 use Rattle.cards.specs.declared.CardFault.{CardFault}
 use Rattle.writer.specs.declared.runs.Call.{Call}
 use Rattle.writer.specs.declared.runs.Call.TheVariants.{Append, Close}
 use Rattle.writer.specs.declared.writer.Writer.{Writer}
-use Rattle.writer.specs.Replay.{plain_call}
+use Rattle.cards.proofs.Claims.{is_run}
+use Rattle.cards.proofs.Runs.{run_made}
+use Rattle.writer.specs.Replay.{plain_call, made_calls, made_answers, Ran}
 use Rattle.writer.specs.Stands.{Stands}
-
--- the plain writer after an append
-abbrev pub after_append : Sealing → Plain → Sheet → Plain
-after_append S w s = left_by (append_answer S w s) (appended S w s) w
 
 -- the run of w over all calls has come to q, with cs still to be made
 pub record Reached (S : Sealing) (w : Plain) (all : List plain.Call) (done : List (Result ℕ Fault)) (q : Plain) (cs : List plain.Call) : Type 0 where
   pub answers : done ++ (run S q cs).answers ≡ (run S w all).answers
   pub medium : (run S q cs).medium ≡ (run S w all).medium
+  pub left : (run S q cs).left ≡ (run S w all).left
 
 module _ (S : Sealing) (w : Plain) (all : List plain.Call) (done : List (Result ℕ Fault)) (q : Plain) (cs : List plain.Call) where
   reached_append : (s : Sheet) → Reached S w all done q (append s ∷ cs) → Reached S w all (done ++ (append_answer S q s ∷ [])) (after_append S q s) cs
   reached_append s h = record {
     answers = append_assoc done (append_answer S q s ∷ []) (run S (after_append S q s) cs).answers ∙ h.answers;
     medium = h.medium;
+    left = h.left;
   }
 
   reached_refusal : (f : Fault) → close_answer S q ≡ Err f → Reached S w all done q (close ∷ cs) → Reached S w all (done ++ (Err f ∷ [])) q cs
   reached_refusal f e h = record {
     answers = append_assoc done (Err f ∷ []) (run S q cs).answers ∙ ap (λ (x : Run). done ++ x.answers) (sym (ran f e)) ∙ h.answers;
     medium = ap (λ (x : Run). x.medium) (sym (ran f e)) ∙ h.medium;
+    left = ap (λ (x : Run). x.left) (sym (ran f e)) ∙ h.left;
   }
     where
       ran : (f : Fault) → close_answer S q ≡ Err f → run S q (close ∷ cs) ≡ answered (Err f) (next_nonce q) (run S q cs)
@@ -106,3 +110,31 @@ called xs ys i d x e h = subst (λ (z : List Call). get_or z i d ≡ x) e h
 pub others_stay : {X : Type 0} (xs ys zs : List X) (i : ℕ) (y : X) → ys ≡ set xs i y → drop i xs ≡ drop i zs → drop (i + 1) ys ≡ drop (i + 1) zs
 others_stay xs ys zs i y e h =
     ap (drop (i + 1)) e ∙ drop-set-lt (i + 1) xs i y (omega arith) ∙ sym (drop-drop 1 i xs) ∙ ap (drop 1) h ∙ drop-drop 1 i zs
+
+-- ---- the calls that were made
+
+-- one more, with a cell and an edition in their ranges
+pub well_push : (calls : List Call) (i : ℕ) (d x : Call) → i < length calls → get_or calls i d ≡ x → WellCall (plain_call x) → AllByRecursion WellCall (made_calls i calls) → AllByRecursion WellCall (made_calls (i + 1) calls)
+well_push calls i d x lt is well all =
+    let e : made_calls (i + 1) calls ≡ made_calls i calls ++ plain_call x ∷ [] = ap (map plain_call) (take_more calls i d lt ∙ ap (λ y. take i calls ++ y ∷ []) is) ∙ map-append plain_call (take i calls) (x ∷ []) in
+    subst (AllByRecursion WellCall) (sym e) (All-push WellCall (made_calls i calls) (plain_call x) all well)
+
+-- the run of the calls that were made is that of all that there are slots for
+made_run : (S : Sealing) (w : Plain) (calls : List Call) (slots n : ℕ) (after : List (Result ℕ CardFault)) → n ≤ slots → n ≤ length after → made_answers n after ≡ (run S w (made_calls slots calls)).answers → run S w (made_calls n calls) ≡ run S w (made_calls slots calls)
+made_run S w calls slots n after le long e =
+    let all = made_calls slots calls in
+    let x = run S w all in
+    let count : length x.answers ≡ n = ap length (sym e) ∙ length-map (take n after) told ∙ length-take-le n after long in
+    let same : take n all ≡ made_calls n calls = take-map plain_call n (take slots calls) ∙ ap (map plain_call) (take-take n slots calls le) in
+    ap (run S w) (sym same) ∙ ap (λ k. run S w (take k all)) (sym count) ∙ run_made S all w
+
+-- what was made from an accepted start is a run
+pub made_is_run : (S : Sealing) (L : Laws S) (key : List ℕ) (number : ℕ) (start_medium : List ℕ) (w : Plain) → start S key number start_medium ≡ Ok w
+    → (calls : List Call) (slots n : ℕ) (before after : List (Result ℕ CardFault)) (medium : List ℕ) → n ≤ slots → slots ≤ length after
+    → Ran n before after medium (run S w (made_calls slots calls)) → AllByRecursion WellCall (made_calls n (take slots calls)) → IsRun S key w (made_calls n calls) (made_answers n after) medium
+made_is_run S L key number start_medium w starts calls slots n before after medium le long ran well =
+    let same = made_run S w calls slots n after le (omega arith) ran.answers in
+    let well' : AllByRecursion WellCall (made_calls n calls) = subst (λ cs. AllByRecursion WellCall (map plain_call cs)) (take-take n slots calls le) well in
+    is_run S L key number start_medium w starts (made_calls n calls) (made_answers n after) medium well'
+    (ran.answers ∙ ap (λ (x : Run). x.answers) (sym same))
+    (ran.medium_is ∙ ap (λ (x : Run). x.medium) (sym same))

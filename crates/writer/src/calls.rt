@@ -2,7 +2,8 @@ ghost use Rattle.std.specs.Prelude.{◌≡◌};
 ghost use Rattle.cards.specs.Faults.{at, told, recorded};
 ghost use Rattle.cards.specs.declared.RecordFault.TheVariants as rec;
 ghost use Rattle.cards.specs.Format.{a_sheet};
-ghost use Rattle.cards.specs.Plain.{Plain, start as plain_start, start_medium, append_answer, append_questions, appended, close_answer, closed_medium, left_by};
+ghost use Rattle.cards.specs.Claims.{RunsHold};
+ghost use Rattle.cards.specs.Plain.{Plain, start as plain_start, start_medium, append_answer, append_questions, after_append, close_answer, after_close};
 ghost use Rattle.writer.specs.Stands.{Stands, Starts, Back, closing};
 
 use crate::writer::{Unclosed, Writer};
@@ -13,7 +14,7 @@ use cards::{
 use sealer::{SealFault, Sealer};
 use std::marker::PhantomData;
 
-impl<C: Sealer + Drop> Writer<C> {
+impl<C: Sealer> Writer<C> {
     // Starts a card on a medium: writes its header.
     pub fn start(key: &[u8], number: u64, medium: &mut [u8]) -> Result<Writer<C>, CardFault>
         ensures answer { Starts result medium.new (plain_start C.meaning key.now number medium.old) }
@@ -62,7 +63,10 @@ impl<C: Sealer + Drop> Writer<C> {
         edition: u16,
         body: &[u8],
     ) -> Result<usize, CardFault>
-        ensures { (w : Plain) → Stands self.old medium.old w → (told result ≡ append_answer C.meaning w (a_sheet cell edition body.now)) × Stands self.new medium.new (left_by (append_answer C.meaning w (a_sheet cell edition body.now)) (appended C.meaning w (a_sheet cell edition body.now)) w) }
+        ensures plain { (w : Plain) → Stands self.old medium.old w →
+            (told result ≡ append_answer C.meaning w (a_sheet cell edition body.now))
+            × Stands self.new medium.new (after_append C.meaning w (a_sheet cell edition body.now)) }
+        ensures law { RunsHold C.meaning }
     {
         let n = self.ask(body.len(), medium.len())?;
         let head = make_head(Kind::Sheet.into(), cell, edition, body.len() as u16);
@@ -75,7 +79,10 @@ impl<C: Sealer + Drop> Writer<C> {
     // Writes the end record, and answers the card's length. A refused close gives the writer back.
     pub fn close(self, medium: &mut [u8]) -> Result<usize, Unclosed<C>>
         ensures back { Back result self }
-        ensures plain { (w : Plain) → Stands self medium.old w → (closing result ≡ close_answer C.meaning w) × (medium.new ≡ left_by (close_answer C.meaning w) (closed_medium C.meaning w) w.medium) }
+        ensures plain { (w : Plain) → Stands self medium.old w →
+            (closing result ≡ close_answer C.meaning w)
+            × (medium.new ≡ after_close C.meaning w) }
+        ensures law { RunsHold C.meaning }
     {
         let length = self.place + HEAD_BYTES + C::WIDTH;
         if medium.len() < length {

@@ -6,5 +6,5 @@ mod runs;
 mod seals;
 mod writer;
 
-pub use runs::{Call, replay};
+pub use runs::{Call, Replayed, replay};
 pub use writer::{Unclosed, Writer};

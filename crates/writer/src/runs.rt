@@ -1,8 +1,9 @@
-ghost use Rattle.std.specs.Prelude.{◌≤◌, map, length, take};
-ghost use Rattle.cards.specs.Claims.{RunsHold};
-ghost use Rattle.cards.specs.Plain.{Plain};
+ghost use Rattle.std.specs.Prelude.{◌≡◌, ℕ, ◌≤◌, List, length, take, Ok};
+ghost use Rattle.std.specs.List.{AllByRecursion};
+ghost use Rattle.cards.specs.Claims.{WellCall, IsRun, RunsHold};
+ghost use Rattle.cards.specs.Plain.{Plain, start};
 ghost use Rattle.cards.specs.Runs.{run};
-ghost use Rattle.writer.specs.Replay.{plain_call, Ran};
+ghost use Rattle.writer.specs.Replay.{made_calls, made_answers, Ran, GivenBack};
 ghost use Rattle.writer.specs.Stands.{Stands};
 
 use crate::writer::{Unclosed, Writer};
@@ -20,20 +21,29 @@ pub enum Call<'a> {
     Close,
 }
 
-// Makes the calls one after the other, each on the medium that the call before left, and puts what each answers into its slot. An accepted close comes last.
-// No more calls are made than there are slots; the answer is how many were made, and the slots after them stay.
-//
-// Answers and medium are those of the plain writer. Over every sealer, a writer that has had only append and close since start never seals twice under
-// one nonce, and its closed card reads as the accepted sheets, in order.
-pub fn replay<C: Sealer + Drop>(
+/// What a replay comes to.
+#[derive(Drop)]
+pub struct Replayed<C> {
+    /// How many calls were made, each of which has its answer in its slot.
+    pub made: usize,
+    /// The writer, as the calls left it, so that a run can go on; none after an accepted close.
+    pub writer: Option<Writer<C>>,
+}
+
+// The loop of replay. The claims on runs follow from what it says, apart from the loop.
+fn make_calls<C: Sealer>(
     writer: Writer<C>,
     medium: &mut [u8],
     calls: &[Call<'_>],
     answers: &mut [Result<usize, CardFault>],
-) -> usize
-    ensures same { (w : Plain) → Stands writer medium.old w → Ran result answers.old answers.new medium.new (run C.meaning w (map plain_call (take (length answers.old) calls.now))) }
-    ensures made { result ≤ length answers.old }
-    ensures holds { RunsHold C.meaning }
+) -> Replayed<C>
+    ensures same { (w : Plain) → Stands writer medium.old w →
+        Ran result.made answers.old answers.new medium.new
+        (run C.meaning w (made_calls (length answers.old) calls.now)) }
+    ensures back { (w : Plain) → Stands writer medium.old w →
+        GivenBack result.writer medium.new (run C.meaning w (made_calls (length answers.old) calls.now)).left }
+    ensures made { result.made ≤ length answers.old }
+    ensures well { AllByRecursion WellCall (made_calls result.made (take (length answers.old) calls.now)) }
 {
     let count = calls.len().min(answers.len());
     let mut open = writer;
@@ -48,7 +58,10 @@ pub fn replay<C: Sealer + Drop>(
             Call::Close => match open.close(medium) {
                 Ok(length) => {
                     answers[i] = Ok(length);
-                    return i + 1;
+                    return Replayed {
+                        made: i + 1,
+                        writer: None,
+                    };
                 }
                 Err(unclosed) => {
                     let Unclosed { writer, fault } = unclosed;
@@ -59,5 +72,34 @@ pub fn replay<C: Sealer + Drop>(
         };
         answers[i] = answer;
     }
-    count
+    Replayed {
+        made: count,
+        writer: Some(open),
+    }
+}
+
+/// Makes the calls one after the other, each on the medium that the call before left, and puts what each answers into its slot.
+///
+/// An accepted close comes last. No more calls are made than there are slots, and the slots after the calls that were made stay.
+/// Answers and medium are those of the plain writer's run, and the writer that is given back stands for the plain one that is
+/// left (docs/cards.md). The calls made on a writer that was started never seal twice under one nonce, and a closed card reads
+/// as the accepted sheets, in order.
+pub fn replay<C: Sealer>(
+    writer: Writer<C>,
+    medium: &mut [u8],
+    calls: &[Call<'_>],
+    answers: &mut [Result<usize, CardFault>],
+) -> Replayed<C>
+    ensures same { (w : Plain) → Stands writer medium.old w →
+        Ran result.made answers.old answers.new medium.new
+        (run C.meaning w (made_calls (length answers.old) calls.now)) }
+    ensures back { (w : Plain) → Stands writer medium.old w →
+        GivenBack result.writer medium.new (run C.meaning w (made_calls (length answers.old) calls.now)).left }
+    ensures made { result.made ≤ length answers.old }
+    ensures started { (key : List ℕ) (number : ℕ) (before : List ℕ) (w : Plain) →
+        start C.meaning key number before ≡ Ok w → Stands writer medium.old w →
+        IsRun C.meaning key w (made_calls result.made calls.now) (made_answers result.made answers.new) medium.new }
+    ensures law { RunsHold C.meaning }
+{
+    make_calls(writer, medium, calls, answers)
 }

@@ -23,7 +23,7 @@ pub struct Unclosed<C> {
     pub fault: CardFault,
 }
 
-impl<C: Drop> From<Unclosed<C>> for CardFault {
+impl<C> From<Unclosed<C>> for CardFault {
     ghost from_gives = { λ unclosed fault. fault ≡ unclosed.fault };
 
     fn from(unclosed: Unclosed<C>) -> CardFault {
