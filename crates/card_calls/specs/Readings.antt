@@ -4,7 +4,7 @@ use Rattle.std.specs.List.{list_all}
 use Rattle.sealer.specs.Seal.{scratch_bytes}
 use Rattle.sealer.specs.Sealing.{Sealing}
 use Rattle.cards.specs.Faults.{Fault, and_then, refused_text, told}
-use Rattle.cards.specs.Reader.{Card, check, scratch_after, sheet_answer, sheet_buffer, cell_at, edition_at, Finds}
+use Rattle.cards.specs.Reader.{Card, check, scratch_after, sheet_drawn, cell_at, edition_at, Finds}
 use Rattle.reader.specs.Heads.{headed}
 use Rattle.reader.specs.declared.SheetHead.{SheetHead}
 use Rattle.script.specs.Hex.{bytes_of, hex_text}
@@ -80,12 +80,12 @@ sheet_in x = record { number = x.number; answer = told x.answer; buffer = vec_it
 
 -- a card that check refuses is not read
 abbrev pub read_answer : Sealing → Result Card Fault → ℕ → List ℕ → Result SheetHead Fault
-read_answer S (Ok c) i b = headed (sheet_answer S c i (length b))
+read_answer S (Ok c) i b = headed (sheet_drawn S c i b).answer
 read_answer S (Err f) i b = Err f
 
 -- its buffer after that: a card that check refuses leaves it as it was
 abbrev pub read_buffer : Sealing → Result Card Fault → ℕ → List ℕ → List ℕ
-read_buffer S (Ok c) i b = sheet_buffer S c i b
+read_buffer S (Ok c) i b = (sheet_drawn S c i b).buffer
 read_buffer S (Err f) i b = b
 
 -- sheet i with a buffer of this length

@@ -124,7 +124,7 @@ impl Draft {
     }
 
     // Starts a card on the medium, makes its calls, and says what was answered.
-    fn write_on<C: Sealer + Drop>(
+    fn write_on<C: Sealer>(
         &self,
         heap: Global,
         medium: &mut [u8],
@@ -142,7 +142,7 @@ impl Draft {
     }
 
     // Writes the card on a new medium, under a sealer.
-    fn answer_over<C: Sealer + Drop>(
+    fn answer_over<C: Sealer>(
         &self,
         heap: Global,
     ) -> Result<String, AllocError>
@@ -217,7 +217,7 @@ fn lines_of(
 }
 
 // Makes the calls, each with a slot for its answer, and says what each answered.
-fn run_calls<C: Sealer + Drop>(
+fn run_calls<C: Sealer>(
     heap: Global,
     writer: Writer<C>,
     medium: &mut [u8],
@@ -226,7 +226,7 @@ fn run_calls<C: Sealer + Drop>(
     ensures { (w : Plain) → Stands writer medium.old w → IfOk result (λ t. (string_bytes t ≡ call_lines (map plain_call calls.now) (run_of C.meaning w (map plain_call calls.now)).answers) × (medium.new ≡ (run_of C.meaning w (map plain_call calls.now)).medium)) }
 {
     let mut answers = vec![in heap; Ok(0); calls.len()]?;
-    let made = replay(writer, medium, calls, answers.as_mut_slice());
+    let made = replay(writer, medium, calls, answers.as_mut_slice()).made;
     lines_of(heap, calls, front_of(answers.as_slice(), made))
 }
 

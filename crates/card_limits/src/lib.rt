@@ -43,20 +43,20 @@ mod tests {
         }
     }
 
-    fn start_on<C: Sealer + Drop>(medium: &mut [u8]) -> Result<(), CardFault> {
+    fn start_on<C: Sealer>(medium: &mut [u8]) -> Result<(), CardFault> {
         let _ = Writer::<C>::start(KEY, NUMBER, medium)?;
         Ok(())
     }
 
     // Appends a body of one byte to a new card.
-    fn append_on<C: Sealer + Drop>(
+    fn append_on<C: Sealer>(
         medium: &mut [u8],
     ) -> Result<usize, CardFault> {
         let mut writer = Writer::<C>::start(KEY, NUMBER, medium)?;
         writer.append(medium, 7, 3, b"A")
     }
 
-    fn close<C: Sealer + Drop>(
+    fn close<C: Sealer>(
         writer: Writer<C>,
         medium: &mut [u8],
     ) -> Result<usize, CardFault> {
@@ -64,7 +64,7 @@ mod tests {
     }
 
     // The fewest bytes of a medium on which a card starts, and those on which it then takes a body of one byte.
-    fn shortest<C: Sealer + Drop>(
+    fn shortest<C: Sealer>(
         rt: &impl Abort,
         start: usize,
         append: usize,

@@ -10,10 +10,10 @@ pub const HEADER_BYTES: usize = 13;
 pub const HEAD_BYTES: usize = 9;
 
 // The header of a card.
-pub fn make_header(version: u16, number: u64) -> [u8; 13]
+pub fn make_header(version: u16, number: u64) -> [u8; HEADER_BYTES]
     ensures { result ≡ header_of version number }
 {
-    let mut header = [0; 13];
+    let mut header = [0; HEADER_BYTES];
     header[0..3].copy_from_slice(MARK);
     header[3..5].copy_from_slice(&version.to_be_bytes());
     header[5..13].copy_from_slice(&number.to_be_bytes());
@@ -21,10 +21,10 @@ pub fn make_header(version: u16, number: u64) -> [u8; 13]
 }
 
 // The head of a record. Its kind is any byte, as Kind would ask more of a caller.
-pub fn make_head(kind: u8, cell: u32, edition: u16, length: u16) -> [u8; 9]
+pub fn make_head(kind: u8, cell: u32, edition: u16, length: u16) -> [u8; HEAD_BYTES]
     ensures { result ≡ head kind cell edition length }
 {
-    let mut bytes = [kind; 9];
+    let mut bytes = [kind; HEAD_BYTES];
     bytes[1..5].copy_from_slice(&cell.to_be_bytes());
     bytes[5..7].copy_from_slice(&edition.to_be_bytes());
     bytes[7..9].copy_from_slice(&length.to_be_bytes());
@@ -32,7 +32,7 @@ pub fn make_head(kind: u8, cell: u32, edition: u16, length: u16) -> [u8; 9]
 }
 
 // The nonce of record n: the card number, which is the header's last eight bytes, and then n.
-pub fn record_nonce(header: &[u8; 13], n: u64) -> [u8; 16]
+pub fn record_nonce(header: &[u8; HEADER_BYTES], n: u64) -> [u8; 16]
     ensures { result ≡ nonce header.now n }
 {
     let mut bytes = [0; 16];
@@ -44,7 +44,7 @@ pub fn record_nonce(header: &[u8; 13], n: u64) -> [u8; 16]
 }
 
 // The data under which a record is sealed: the card's header and the record's head.
-pub fn record_data(header: &[u8; 13], head: &[u8; 9]) -> [u8; 22]
+pub fn record_data(header: &[u8; HEADER_BYTES], head: &[u8; HEAD_BYTES]) -> [u8; 22]
     ensures { result ≡ header.now ++ head.now }
 {
     let mut bytes = [0; 22];

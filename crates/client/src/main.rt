@@ -11,7 +11,7 @@ use writer::Writer;
 
 const KEY: [u8; 16] = [1; 16];
 
-fn write<C: Sealer + Drop>(medium: &mut [u8]) -> anyhow::Result<usize> {
+fn write<C: Sealer>(medium: &mut [u8]) -> anyhow::Result<usize> {
     let mut writer = Writer::<C>::start(&KEY, 4, medium).context("start")?;
     writer.append(medium, 7, 1, b"shoal").context("append")?;
     writer.append(medium, 7, 2, b"deep").context("append")?;
@@ -35,7 +35,7 @@ fn read<C: Sealer>(rt: &HostRuntime, name: &str, bytes: &[u8]) -> anyhow::Result
     Ok(())
 }
 
-fn write_and_read<C: Sealer + Drop>(rt: &HostRuntime, name: &str) -> anyhow::Result<()> {
+fn write_and_read<C: Sealer>(rt: &HostRuntime, name: &str) -> anyhow::Result<()> {
     let mut medium = [0; 256];
     let length = write::<C>(&mut medium)?;
     let bytes = medium.get(0..length).context("length")?;

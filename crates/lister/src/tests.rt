@@ -96,7 +96,7 @@ fn records(rt: HostRuntime) -> Result<(), Fail> {
 }
 
 // A card of these sheets, and how long it is: cell, edition and body of each.
-fn write_card<C: Sealer + Drop>(
+fn write_card<C: Sealer>(
     medium: &mut [u8],
     sheets: &[(u32, u16, &[u8])],
 ) -> Result<usize, CardFault> {
@@ -108,7 +108,7 @@ fn write_card<C: Sealer + Drop>(
 }
 
 // A card of two sheets is listed so.
-fn expect_two<C: Sealer + Drop>(
+fn expect_two<C: Sealer>(
     rt: &impl Abort,
     heap: Global,
     medium: &mut [u8; 100],

@@ -171,7 +171,7 @@ fn calls_are_replayed(rt: HostRuntime) -> Result<(), Fail> {
     ];
     let mut answers = [Ok(0); 4];
     let writer = Writer::<FirstByte>::start(KEY, NUMBER, &mut medium)?;
-    assert_eq!(rt; replay(writer, &mut medium, &calls, &mut answers), 4);
+    assert_eq!(rt; replay(writer, &mut medium, &calls, &mut answers).made, 4);
     assert_eq!(rt;
         answers.map(said),
         [Ok(0), Err((7, 2, 1, 28)), Ok(1), Ok(54)]

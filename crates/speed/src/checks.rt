@@ -11,7 +11,7 @@ use writer::Writer;
 const KEY: [u8; 16] = [7; 16];
 
 // Writes a card of as many sheets as there may be, each as long as it may be.
-fn write_full<C: Sealer + Drop>(medium: &mut [u8]) -> anyhow::Result<()> {
+fn write_full<C: Sealer>(medium: &mut [u8]) -> anyhow::Result<()> {
     let body = [5; MOST_BODY];
     let mut writer = Writer::<C>::start(&KEY, 4, medium).context("start was refused")?;
     // Each sheet has its number as its cell.
@@ -64,7 +64,7 @@ fn open_bodies<C: Sealer>(bytes: &[u8], out: &mut [u8]) -> anyhow::Result<()> {
 }
 
 // Times check of a full card, and opening all its bodies.
-fn time<C: Sealer + Drop>(rt: &HostRuntime, name: &str) -> anyhow::Result<()> {
+fn time<C: Sealer>(rt: &HostRuntime, name: &str) -> anyhow::Result<()> {
     let width = C::WIDTH;
     let length = HEADER_BYTES + MOST_SHEETS * (HEAD_BYTES + MOST_BODY + width) + HEAD_BYTES + width;
     let mut medium = vec![in rt.alloc(); 0; length]?;

@@ -20,6 +20,8 @@ impl<C: Sealer> Writer<C> {
         let (body_part, rest) = rest.split_at_mut(body.len());
         let (tag_part, _) = rest.split_at_mut(C::WIDTH);
         head_part.copy_from_slice(head);
+        // None of the cipher's questions can get a no: key and nonce are arrays, data has 22 bytes, the body at most 4,096, and both
+        // parts have the lengths that are asked for.
         let _ = C::seal(&self.key, &nonce, &data, body, body_part, tag_part);
     }
 }
