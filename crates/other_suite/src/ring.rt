@@ -1,4 +1,4 @@
-ghost use Rattle.std.specs.Prelude.{◌≡◌, ◌≤◌, ◌++◌, length, take, drop};
+ghost use Rattle.std.specs.Prelude.{◌≡◌, ◌≤◌, ◌++◌, length, take, drop, refl};
 ghost use Rattle.permutations.specs.Bytes.{xors};
 ghost use Rattle.other_suite.specs.Ring.{mixed, ring};
 ghost use Rattle.other_suite.specs.Rings;
@@ -37,8 +37,6 @@ impl Bijection for Ring {
 }
 
 impl Permutation<23> for Ring {
-    fn sized() {}
-
     #[tactic(auto, unfolding(crate::specs::Ring::forward, crate::specs::Ring::turned))]
     fn forward(state: &mut [u8; 23]) {
         state.rotate_right(11);
@@ -50,4 +48,6 @@ impl Permutation<23> for Ring {
         mix(state);
         state.rotate_left(11);
     }
+
+    ghost sized = { refl };
 }

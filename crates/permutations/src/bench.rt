@@ -1,4 +1,4 @@
-ghost use Rattle.std.specs.Prelude.{◌≡◌, ◌≤◌, length, MatchResult};
+ghost use Rattle.std.specs.Prelude.{◌≡◌, ◌≤◌, length, refl, MatchResult};
 ghost use Rattle.permutations.specs.Bench.{bench, bench_walk};
 ghost use Rattle.permutations.specs.Bytes.{xors};
 ghost use Rattle.permutations.specs.Benches;
@@ -37,8 +37,6 @@ impl Bijection for Bench {
 }
 
 impl Permutation<32> for Bench {
-    fn sized() {}
-
     fn forward(state: &mut [u8; 32]) {
         let q = *state;
         xor_into(&q[24..32], &q[0..8], &mut state[0..8]);
@@ -50,6 +48,8 @@ impl Permutation<32> for Bench {
         xor_into(&q[0..8], &q[8..16], &mut state[24..32]);
         state[0..24].copy_from_slice(&q[8..32]);
     }
+
+    ghost sized = { refl };
 }
 
 impl Steps for Bench {

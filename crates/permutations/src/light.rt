@@ -33,8 +33,6 @@ impl<W: Width> Bijection for Light<W> {
 }
 
 impl<const B: usize, W: StateBytes<B>> Permutation<B> for Light<W> {
-    fn sized() {}
-
     #[tactic(auto, unfolding(crate::specs::Light::forward))]
     fn forward(state: &mut [u8; B]) {
         State::<W>::load(state).forward().store(state);
@@ -44,6 +42,8 @@ impl<const B: usize, W: StateBytes<B>> Permutation<B> for Light<W> {
     fn back(state: &mut [u8; B]) {
         State::<W>::load(state).back().store(state);
     }
+
+    ghost sized = { W.sized };
 }
 
 impl<W: Width> Steps for Light<W> {

@@ -10,15 +10,14 @@ pub trait Bijection {
 
 // A permutation of states of B bytes.
 pub trait Permutation<const B: usize>: Bijection {
-    // B is the size that is meant; generic code calls this to know it.
-    fn sized()
-        ensures { B ≡ Self.Bijection.meaning.size };
-
     fn forward(state: &mut [u8; B])
         ensures { state.new ≡ Self.Bijection.meaning.forward state.old };
 
     fn back(state: &mut [u8; B])
         ensures { state.new ≡ Self.Bijection.meaning.back state.old };
+
+    /// B is the size that is meant.
+    ghost sized: { B ≡ Self.Bijection.meaning.size };
 }
 
 // What the steps of a permutation mean: forward is all of them in order, and back undoes them from the last to the first.
@@ -61,7 +60,6 @@ pub fn there_and_back<const B: usize, P: Permutation<B>>(state: &mut [u8; B]) ->
     ensures undo { Undo B P.Bijection.meaning }
 {
     holds_bytes(*state);
-    P::sized();
     P::forward(state);
     let there = *state;
     P::back(state);

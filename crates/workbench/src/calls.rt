@@ -71,7 +71,6 @@ fn call_on<const B: usize, P: Stepped<B>>(
 ) -> Result<String, Unread>
     ensures { Holds string_bytes result (call_answer of P.Bijection.meaning P.Steps.walk call bytes.now) }
 {
-    P::sized();
     let mut state = <[u8; B]>::try_from(bytes).ok().ok_or(Unread::StateLength {
         of,
         expected: B,
