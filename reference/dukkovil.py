@@ -37,6 +37,7 @@ class Number(IntEnum):
     END_WRONG = 14
     BYTES_LEFT = 15
     NO_SUCH_SHEET = 16
+    TOO_MANY_STEPS = 21
 
 
 class Layer(IntEnum):
@@ -81,48 +82,37 @@ def xor(a: bytes, b: bytes) -> bytes:
     return bytes(x ^ y for x, y in zip(a, b))
 
 
-class NoSuchStep(Exception):
-    """There is no step of that number."""
-
-
 class Permutation(ABC):
-    """A permutation of `size` bytes, made of `steps` steps counted from 0."""
+    """A permutation of `size` bytes, made of steps counted from 0; `steps` is the full number."""
 
     size: int
     steps: int
 
-    def step(self, state: bytes, i: int) -> bytes:
-        """Take step i."""
-        self._ask_step(i)
-        return self._take(state, i)
-
-    def unstep(self, state: bytes, i: int) -> bytes:
-        """Undo step i."""
-        self._ask_step(i)
-        return self._undo(state, i)
-
-    def forward(self, state: bytes) -> bytes:
-        """Take all steps in order."""
-        for i in range(self.steps):
+    def forward_by(self, state: bytes, s: int) -> bytes:
+        """Take steps 0 to s - 1."""
+        self._ask_steps(s)
+        for i in range(s):
             state = self._take(state, i)
         return state
 
-    def back(self, state: bytes) -> bytes:
-        """Undo all steps, the last one first."""
-        for i in reversed(range(self.steps)):
+    def back_by(self, state: bytes, s: int) -> bytes:
+        """Undo steps s - 1 to 0."""
+        self._ask_steps(s)
+        for i in reversed(range(s)):
             state = self._undo(state, i)
         return state
 
-    def trace(self, state: bytes) -> Iterator[bytes]:
-        """Give the state after 0 steps, after 1 and so on to all of them."""
-        yield state
-        for i in range(self.steps):
-            state = self._take(state, i)
-            yield state
+    def forward(self, state: bytes) -> bytes:
+        """Take all steps."""
+        return self.forward_by(state, self.steps)
 
-    def _ask_step(self, i: int) -> None:
-        if not 0 <= i < self.steps:
-            raise NoSuchStep(i)
+    def back(self, state: bytes) -> bytes:
+        """Undo all steps."""
+        return self.back_by(state, self.steps)
+
+    def _ask_steps(self, s: int) -> None:
+        if s > self.steps:
+            refuse(Number.TOO_MANY_STEPS, Layer.CIPHER)
 
     @abstractmethod
     def _take(self, state: bytes, i: int) -> bytes: ...

@@ -103,6 +103,58 @@ def edge_states(size: int) -> list[bytes]:
     return states
 
 
+# Steps by number
+
+STEPS = ("forward-by", "back-by")
+
+
+def steps(script: Script) -> None:
+    for name, permutation in PERMUTATIONS.items():
+        script.note(f"every number of steps of {name}, and more than there are")
+        full = permutation.steps
+        more = (full + 1, full + 2, 255, 256, (1 << 32) + 1, 1 << 63, HUGE)
+        for s in (*range(full + 1), *more):
+            for call in STEPS:
+                script.call(call, name, s, script.some_bytes(permutation.size))
+        for state in edge_states(permutation.size):
+            for call in STEPS:
+                script.call(call, name, script.random.randrange(full + 1), state)
+        for _ in range(10 * script.count):
+            state = script.some_bytes(permutation.size)
+            s = script.random.randrange(full + 1)
+            script.call("back-by", name, s, permutation.forward_by(state, s))
+            script.call("forward-by", name, s, permutation.back_by(state, s))
+            script.call("forward-by", name, f"00{s}", state)
+    steps_unread(script)
+
+
+def steps_unread(script: Script) -> None:
+    """Words that are wrong, one and two of them, in reading order."""
+    script.note("steps that can't be read")
+    state = b"\x01" * 24
+    over = 1 << 64
+    for call in STEPS:
+        for words in (
+                (), ("193",), ("192",), ("192", ""), ("192", 5), ("192", 5, ""), ("", 5, state),
+                ("193", "x", state), ("192", "x", "0"), ("192", "-", state), ("192", "+1", state),
+                ("192", "0x1", state), ("192", over, state), ("192", over, "0"),
+                ("192", 19, state, "00"), ("192", 19, state, ""), ("192", 19, state[1:]),
+                ("192", 5, state[1:], "00"), ("192", 5, "0G"), ("192", 5, "000"), ("192", 5, b""),
+                ("192", 5, state + state[:8]), ("256", 5, state), ("bench", 1, state),
+                ("bench", 2, state), ("192", state, 5), ("192", "5", "5", state)):
+            script.call(call, *words)
+    script.note("a call that is named nearly so")
+    for call in ("forwardby", "forward-", "forward_by", "Forward-by", "back-By", "back-by-", "by"):
+        script.call(call, "192", 5, state)
+    script.note("within a card, which stays")
+    script.raw(f"write 9 {KEY} 1 60 00")
+    for call in STEPS:
+        script.call(call, "192", 5, state)
+        script.call(call)
+    script.raw("close")
+    script.raw("end")
+
+
 # The cipher
 
 @dataclass(frozen=True)
@@ -1276,6 +1328,7 @@ def edges(script: Script) -> None:
 
 KINDS: dict[str, Callable[[Script], None]] = {
     "permutations": permutations,
+    "steps": steps,
     "cipher": cipher,
     "test": tests,
     "cards": cards,

@@ -9,7 +9,7 @@ from typing import Optional
 
 import dukkovil
 from dukkovil import (BENCH, BENCH_PERMUTATION, BENCH_SEALER, LIGHT192, LIGHT256, SEALERS, SPOC64,
-                      SPOC128, Card, Fault, Head, NoSuchStep, Permutation, Refused, Sealer, Spoc,
+                      SPOC128, Card, Fault, Head, Permutation, Refused, Sealer, Spoc,
                       Suite, Writer, xor)
 from workbench import Workbench
 
@@ -72,8 +72,8 @@ def check_permutations(checks: Checks) -> None:
     for permutation, first, last in known:
         zeros = bytes(permutation.size)
         name = f"sLiSCP-light of {permutation.size} bytes"
-        checks.same(f"{name}, step 0", permutation.step(zeros, 0), bytes.fromhex(first))
-        checks.same(f"{name}, unstep 0", permutation.unstep(bytes.fromhex(first), 0), zeros)
+        checks.same(f"{name}, forward by 1", permutation.forward_by(zeros, 1), bytes.fromhex(first))
+        checks.same(f"{name}, back by 1", permutation.back_by(bytes.fromhex(first), 1), zeros)
         checks.same(f"{name}, forward", permutation.forward(zeros), bytes.fromhex(last))
         checks.same(f"{name}, back", permutation.back(bytes.fromhex(last)), zeros)
         checks.same(f"{name}, steps", permutation.steps, 18)
@@ -89,15 +89,16 @@ def check_permutations(checks: Checks) -> None:
         state = bytes(range(permutation.size))
         checks.same("back after forward", permutation.back(permutation.forward(state)), state)
         checks.same("forward after back", permutation.forward(permutation.back(state)), state)
-        for i in range(permutation.steps):
-            checks.same(f"unstep {i} after step",
-                        permutation.unstep(permutation.step(state, i), i), state)
-        for call in (permutation.step, permutation.unstep):
-            try:
-                answer: object = call(state, permutation.steps)
-            except NoSuchStep:
-                answer = "no such step"
-            checks.same("a step that is not there", answer, "no such step")
+        for by in range(permutation.steps + 1):
+            checks.same(f"back by {by} after forward by {by}",
+                        permutation.back_by(permutation.forward_by(state, by), by), state)
+            checks.same(f"forward by {by} after back by {by}",
+                        permutation.forward_by(permutation.back_by(state, by), by), state)
+        checks.same("forward by none", permutation.forward_by(state, 0), state)
+        for call in (permutation.forward_by, permutation.back_by):
+            checks.same("more steps than there are",
+                        str(fault_of(lambda: call(state, permutation.steps + 1))),
+                        "refused 21 layer 1 record 0 place 0")
 
 
 def check_suites(checks: Checks) -> None:
@@ -401,18 +402,19 @@ def check_listing(checks: Checks) -> None:
 
 
 class RingPermutation(Permutation):
-    """The permutation of a suite of another's making: a turn by 11 places, and a xor."""
+    """The permutation of a suite of another's making: a turn by 11 places is one step, a xor the other."""
 
     size = 23
-    steps = 1
+    steps = 2
 
     def _take(self, state: bytes, i: int) -> bytes:
-        turned = state[12:] + state[:12]
-        return xor(turned[:11], turned[11:22]) + turned[11:]
+        return state[12:] + state[:12] if i == 0 else self._mix(state)
 
     def _undo(self, state: bytes, i: int) -> bytes:
-        mixed = xor(state[:11], state[11:22]) + state[11:]
-        return mixed[11:] + mixed[:11]
+        return state[11:] + state[:11] if i == 0 else self._mix(state)
+
+    def _mix(self, state: bytes) -> bytes:
+        return xor(state[:11], state[11:22]) + state[11:]
 
 
 RING = RingPermutation()

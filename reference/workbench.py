@@ -122,16 +122,49 @@ def call_back(words: Words) -> Lines:
 
 def call_trace(words: Words) -> Lines:
     permutation, state = read_state(words)
-    return [f"step {i} {shown(after)}" for i, after in enumerate(permutation.trace(state))]
+    return [f"step {s} {shown(permutation.forward_by(state, s))}"
+            for s in range(permutation.steps + 1)]
 
 
 def read_state(words: Words) -> tuple[Permutation, bytes]:
     name, permutation = words.take_permutation()
+    return permutation, read_last_state(words, name, permutation)
+
+
+def read_last_state(words: Words, name: str, permutation: Permutation) -> bytes:
     state = words.take_bytes()
     words.end()
+    ask_length(name, permutation, state)
+    return state
+
+
+def ask_length(name: str, permutation: Permutation, state: bytes) -> None:
     if len(state) != permutation.size:
         raise Unread(f"a state of {name} has {permutation.size} bytes, not {len(state)}")
-    return permutation, state
+
+
+def call_forward_by(words: Words) -> Lines:
+    permutation, s, state = read_steps(words)
+    return stepped(state, lambda: permutation.forward_by(state, s))
+
+
+def call_back_by(words: Words) -> Lines:
+    permutation, s, state = read_steps(words)
+    return stepped(state, lambda: permutation.back_by(state, s))
+
+
+def read_steps(words: Words) -> tuple[Permutation, int, bytes]:
+    name, permutation = words.take_permutation()
+    s = words.take_number()
+    return permutation, s, read_last_state(words, name, permutation)
+
+
+def stepped(state: bytes, call: Callable[[], bytes]) -> Lines:
+    """The state after the call, which stays below a refusal."""
+    try:
+        return [f"state {shown(call())}"]
+    except Refused as refused:
+        return [str(refused.fault), f"state {shown(state)}"]
 
 
 # Calls on the cipher
@@ -305,6 +338,8 @@ CALLS: dict[bytes, Callable[[Words], Lines]] = {
     b"forward": call_forward,
     b"back": call_back,
     b"trace": call_trace,
+    b"forward-by": call_forward_by,
+    b"back-by": call_back_by,
     b"seal": call_seal,
     b"open": call_open,
     b"seal-into": call_seal_into,

@@ -2,8 +2,10 @@
 use Rattle.std.proofs.Common.{cond, [], is_ok, Ok, Err, refl, ap, arith, lit≤, le-leb}
 use Rattle.permutations.specs.Bench.{forward}
 use Rattle.permutations.specs.Bytes.{xors, load, store, loads, stores}
-use Rattle.permutations.specs.Light.{forward_step}
+use Rattle.permutations.specs.Constants.{constants_192, constants_256}
+use Rattle.permutations.specs.Light.{forward_by}
 use Rattle.permutations.specs.Simeck.{turned, box}
+use Rattle.permutations.specs.Steps.{steps as table_steps}
 use Rattle.permutations.specs.Known.{KnownStates}
 use Rattle.cards.specs.Faults.{fault}
 use Rattle.cards.specs.Reader.{checked, walk}
@@ -13,7 +15,7 @@ use Rattle.known.proofs.Bare.{bare_gives, start_is, one_byte}
 
 -- by computation
 steps : KnownStates
-unfolding turned box load store loads stores forward_step
+unfolding constants_192 constants_256 turned box load store loads stores table_steps forward_by
 steps = (refl, refl)
 
 sealings : BenchExamples

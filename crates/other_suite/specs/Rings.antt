@@ -1,5 +1,5 @@
--- The ring permutation and its inverse undo each other. Assumes nothing.
-use Rattle.std.specs.Prelude.{◌≡◌, ℕ, ◌+◌, ◌≤◌, List, ◌++◌, length, take, drop, refl}
+-- By each number of steps the ring permutation and its inverse undo each other. Assumes nothing.
+use Rattle.std.specs.Prelude.{◌≡◌, ℕ, zero, suc, ◌+◌, ◌≤◌, List, ◌++◌, length, take, drop, refl}
 use Rattle.std.proofs.Common.{ap, ap₂, ◌∙◌, arith, length-append, length-take, length-drop, take_at, drop_at, take-append-drop}
 use Rattle.std.proofs.ByRecursion.{All-append, All-take, All-drop}
 use Rattle.permutations.specs.Bytes.{xors}
@@ -7,7 +7,7 @@ use Rattle.permutations.specs.Permutation.{Bytes, Bijective}
 use Rattle.permutations.specs.Words.{Byte}
 use Rattle.permutations.specs.Xors.{length_xors, xors_bytes, xors_off}
 use Rattle.spoc.specs.Parts.{bytes_append}
-use Rattle.other_suite.specs.Ring.{turned, mixed, forward, backward, ring}
+use Rattle.other_suite.specs.Ring.{turned, mixed, forward_by, backward_by, ring}
 
 -- ---- a turn
 
@@ -57,15 +57,33 @@ module _ (s : List ℕ) (b : Bytes 23 s) where
       ∙ ap (λ z. z ++ drop 11 s) (xors_off (take 11 s) part (omega (arith, front.size, part_length)))
       ∙ take-append-drop 11 s
 
--- the numbers of both turns are read off the definitions
+-- ---- by each number of steps; the numbers of both turns are read off the definitions
+
+forward_by_bytes : (n : ℕ) (s : List ℕ) → Bytes 23 s → Bytes 23 (forward_by n s)
+forward_by_bytes zero s b = b
+forward_by_bytes (suc zero) s b = turned_bytes _ s (omega arith) b
+forward_by_bytes (suc (suc _)) s b = mixed_bytes _ (turned_bytes _ s (omega arith) b)
+
+backward_by_bytes : (n : ℕ) (s : List ℕ) → Bytes 23 s → Bytes 23 (backward_by n s)
+backward_by_bytes zero s b = b
+backward_by_bytes (suc zero) s b = turned_bytes _ s (omega arith) b
+backward_by_bytes (suc (suc _)) s b = turned_bytes _ _ (omega arith) (mixed_bytes s b)
+
+back_forward : (n : ℕ) (s : List ℕ) → Bytes 23 s → backward_by n (forward_by n s) ≡ s
+back_forward zero s b = refl
+back_forward (suc zero) s b = turned_back _ _ s refl b
+back_forward (suc (suc _)) s b = ap (turned _) (mixed_twice _ (turned_bytes _ s (omega arith) b)) ∙ turned_back _ _ s refl b
+
+forward_back : (n : ℕ) (s : List ℕ) → Bytes 23 s → forward_by n (backward_by n s) ≡ s
+forward_back zero s b = refl
+forward_back (suc zero) s b = turned_back _ _ s refl b
+forward_back (suc (suc _)) s b = ap mixed (turned_back _ _ _ refl (mixed_bytes s b)) ∙ mixed_twice s b
+
 pub bijective : Bijective ring
-unfolding forward backward
 bijective = record {
   most = omega arith;
-  forward_bytes = λ s b. mixed_bytes _ (turned_bytes _ s (omega arith) b);
-  back_bytes = λ s b. turned_bytes _ _ (omega arith) (mixed_bytes s b);
-  undo = record {
-    back_forward = λ s b. ap (turned _) (mixed_twice _ (turned_bytes _ s (omega arith) b)) ∙ turned_back _ _ s refl b;
-    forward_back = λ s b. ap mixed (turned_back _ _ _ refl (mixed_bytes s b)) ∙ mixed_twice s b;
-  };
+  none = λ s b. refl;
+  forward_by_bytes = λ n s h b. forward_by_bytes n s b;
+  back_by_bytes = λ n s h b. backward_by_bytes n s b;
+  undo = record { back_forward = λ n s h b. back_forward n s b; forward_back = λ n s h b. forward_back n s b };
 }

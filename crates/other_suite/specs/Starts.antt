@@ -5,6 +5,7 @@ use Rattle.std.proofs.ByRecursion.{All-drop}
 use Rattle.std.proofs.lemmas.List.{append_cancel_right}
 use Rattle.permutations.specs.Bytes.{xors}
 use Rattle.permutations.specs.Permutation.{Bytes, Bijective}
+use Rattle.permutations.specs.Whole.{forward_bytes}
 use Rattle.permutations.specs.Words.{Byte}
 use Rattle.permutations.specs.Xors.{xors_off}
 use Rattle.spoc.specs.Ends.{xored, forward_same}
@@ -32,7 +33,7 @@ ring_sound bij = record {
   masked_count = refl;
   inside = placed_inside 23 (places ring_plan) refl;
   apart = placed_apart 23 (places ring_plan) refl;
-  begin_bytes = λ k n bk bn. bij.forward_bytes (loaded k n) (loaded_bytes k n bk bn);
+  begin_bytes = λ k n bk bn. forward_bytes ring bij (loaded k n) (loaded_bytes k n bk bn);
   begin_apart = λ k l n bk bl bn e.
       let same : loaded k n ≡ loaded l n = forward_same ring bij (loaded k n) (loaded l n) (loaded_bytes k n bk bn) (loaded_bytes l n bl bn) e in
       let keyed = append_cancel_right (xors k n) (xors l n) (drop 9 n) same in

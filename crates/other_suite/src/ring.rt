@@ -1,9 +1,9 @@
-ghost use Rattle.std.specs.Prelude.{◌≡◌, ◌≤◌, ◌++◌, length, take, drop};
+ghost use Rattle.std.specs.Prelude.{◌≡◌, ◌≤◌, ◌++◌, length, take, drop, refl};
 ghost use Rattle.permutations.specs.Bytes.{xors};
 ghost use Rattle.other_suite.specs.Ring.{mixed, ring};
 ghost use Rattle.other_suite.specs.Rings;
 
-use permutations::{Bijection, Permutation};
+use permutations::{Bijection, Permutation, TooManySteps};
 
 // Bytes xored into the front of a state.
 #[tactic(auto, using(crate::proofs::Fronts::front_more), unfolding(permutations::specs::Bytes::xors))]
@@ -26,7 +26,7 @@ fn mix(state: &mut [u8; 23])
     xor_front(&s[11..22], state);
 }
 
-// The ring permutation: 23 bytes, turned by 11 places and mixed.
+/// The ring permutation (docs/cipher.md): a state of 23 bytes, and two steps, a turn by 11 places and mixing.
 #[derive(Clone, Copy)]
 pub struct Ring;
 
@@ -37,17 +37,39 @@ impl Bijection for Ring {
 }
 
 impl Permutation<23> for Ring {
-    fn sized() {}
+    const STEPS: usize = 2;
 
-    #[tactic(auto, unfolding(crate::specs::Ring::forward, crate::specs::Ring::turned))]
-    fn forward(state: &mut [u8; 23]) {
-        state.rotate_right(11);
-        mix(state);
+    ghost STEPS = { 2 };
+
+    #[tactic(auto, unfolding(crate::specs::Ring::turned))]
+    fn forward_by(state: &mut [u8; 23], s: usize) -> Result<(), TooManySteps> {
+        match s {
+            0 => {}
+            1 => state.rotate_right(11),
+            2 => {
+                state.rotate_right(11);
+                mix(state);
+            }
+            _ => return Err(TooManySteps),
+        }
+        Ok(())
     }
 
-    #[tactic(auto, unfolding(crate::specs::Ring::backward, crate::specs::Ring::turned))]
-    fn back(state: &mut [u8; 23]) {
-        mix(state);
-        state.rotate_left(11);
+    #[tactic(auto, unfolding(crate::specs::Ring::turned))]
+    fn back_by(state: &mut [u8; 23], s: usize) -> Result<(), TooManySteps> {
+        match s {
+            0 => {}
+            1 => state.rotate_left(11),
+            2 => {
+                mix(state);
+                state.rotate_left(11);
+            }
+            _ => return Err(TooManySteps),
+        }
+        Ok(())
     }
+
+    ghost sized = { refl };
+
+    ghost steps_is = { refl };
 }

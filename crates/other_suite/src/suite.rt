@@ -48,6 +48,4 @@ impl Suite<23> for Ring {
     ghost version_is = { refl };
 
     ghost rate_is = { refl };
-
-    ghost wide = { refl };
 }

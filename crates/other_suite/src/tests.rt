@@ -1,6 +1,6 @@
 use crate::ring::Ring;
 use cards::CardFault;
-use permutations::there_and_back;
+use permutations::{Permutation, TooManySteps, there_and_back};
 use reader::{Card, SheetHead, find, sheet};
 use sealer::{SealFault, Sealer};
 use spoc_sealer::{BenchSealer, Spoc};
@@ -32,11 +32,19 @@ const CARD: &[u8; 80] =
 fn forward_is_as_worked_by_hand(rt: HostRuntime) {
     let start =
         *b"\x01\x02\x03\x04\x05\x06\x07\x08\x09\x0a\x0b\x0c\x0d\x0e\x0f\x10\x11\x12\x13\x14\x15\x16\x17";
+    let turned =
+        *b"\x0d\x0e\x0f\x10\x11\x12\x13\x14\x15\x16\x17\x01\x02\x03\x04\x05\x06\x07\x08\x09\x0a\x0b\x0c";
+    let mixed =
+        *b"\x0c\x0c\x0c\x14\x14\x14\x14\x1c\x1c\x1c\x1c\x01\x02\x03\x04\x05\x06\x07\x08\x09\x0a\x0b\x0c";
     let mut state = start;
-    assert_eq!(rt;
-        there_and_back::<23, Ring>(&mut state),
-        *b"\x0c\x0c\x0c\x14\x14\x14\x14\x1c\x1c\x1c\x1c\x01\x02\x03\x04\x05\x06\x07\x08\x09\x0a\x0b\x0c"
-    );
+    let answers = [Ok(start), Ok(turned), Ok(mixed), Err(TooManySteps)];
+    for (s, there) in answers.iter().enumerate() {
+        assert_eq!(rt; there_and_back::<23, Ring>(&mut state, s), *there);
+        assert_eq!(rt; state, start);
+    }
+    Ring::forward(&mut state);
+    assert_eq!(rt; state, mixed);
+    Ring::back(&mut state);
     assert_eq!(rt; state, start);
 }
 

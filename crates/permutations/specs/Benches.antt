@@ -1,5 +1,5 @@
 -- The bench permutation and its inverse undo each other. Assumes nothing.
-use Rattle.std.specs.Prelude.{◌≡◌, ℕ, List, [], ◌++◌, length, take, drop, refl}
+use Rattle.std.specs.Prelude.{◌≡◌, ℕ, zero, suc, List, [], ◌++◌, length, take, drop, refl}
 use Rattle.std.proofs.Common.{◌∙◌, append-nil, arith, take_at, drop_at, take-take}
 use Rattle.std.proofs.Math.Path.{ap, ap₂}
 use borrow.Rule.Slice.PartMut.{put_mid}
@@ -7,8 +7,8 @@ use Rattle.std.proofs.lemmas.List.{take_all, drop_all}
 use Rattle.std.proofs.Math.ListN.{take-append-drop, length-append, length-take, length-drop}
 use Rattle.std.proofs.Math.Seq.{take-append-le}
 use Rattle.std.proofs.ByRecursion.{All-append, All-take, All-drop}
-use Rattle.permutations.specs.Permutation.{Bytes, Bijective, Walks, stepped, unstepped}
-use Rattle.permutations.specs.Bench.{forward, backward, bench, bench_walk}
+use Rattle.permutations.specs.Permutation.{Bytes, Bijective}
+use Rattle.permutations.specs.Bench.{forward, backward, forward_by, backward_by, bench}
 use Rattle.permutations.specs.Bytes.{xors}
 use Rattle.permutations.specs.Words.{Byte}
 use Rattle.permutations.specs.Xors.{length_xors, xors_bytes, xors_off}
@@ -58,19 +58,29 @@ module _ (s : List ℕ) (b : Bytes 32 s) where
       ∙ ap (λ z. z ++ d) (xors_off (take 8 s) (take 8 d) (omega (arith, first, length-take 8 d)))
       ∙ take-append-drop 8 s
 
-pub bijective : Bijective bench
-bijective = record { most = omega arith; forward_bytes = forward_bytes; back_bytes = backward_bytes; undo = record { back_forward = backward_forward; forward_back = forward_backward } }
+by_back : (n : ℕ) (s : List ℕ) → Bytes 32 s → backward_by n (forward_by n s) ≡ s
+by_back zero s b = refl
+by_back (suc n) s b = backward_forward s b
 
--- one step is all of it
-pub walks : Walks bench bench_walk
-unfolding stepped unstepped
-walks = record {
-  forward_steps = λ s b. refl;
-  back_unsteps = λ s b. refl;
-  step_bytes = λ i s h b. forward_bytes s b;
-  unstep_bytes = λ i s h b. backward_bytes s b;
-  unstep_step = λ i s h b. backward_forward s b;
-  step_unstep = λ i s h b. forward_backward s b;
+by_forth : (n : ℕ) (s : List ℕ) → Bytes 32 s → forward_by n (backward_by n s) ≡ s
+by_forth zero s b = refl
+by_forth (suc n) s b = forward_backward s b
+
+forward_by_bytes : (n : ℕ) (s : List ℕ) → Bytes 32 s → Bytes 32 (forward_by n s)
+forward_by_bytes zero s b = b
+forward_by_bytes (suc n) s b = forward_bytes s b
+
+backward_by_bytes : (n : ℕ) (s : List ℕ) → Bytes 32 s → Bytes 32 (backward_by n s)
+backward_by_bytes zero s b = b
+backward_by_bytes (suc n) s b = backward_bytes s b
+
+pub bijective : Bijective bench
+bijective = record {
+  most = omega arith;
+  none = λ s b. refl;
+  forward_by_bytes = λ n s h b. forward_by_bytes n s b;
+  back_by_bytes = λ n s h b. backward_by_bytes n s b;
+  undo = record { back_forward = λ n s h b. by_back n s b; forward_back = λ n s h b. by_forth n s b };
 }
 
 -- ---- as the code has it

@@ -7,7 +7,7 @@ abbrev pub row : ℕ → ℕ → ℕ → ℕ → StepConstants
 row a b c d = record { rc0 = a; rc1 = b; sc0 = c; sc1 = d }
 
 -- of sLiSCP-light-[192]
-abbrev pub constants_192 : List StepConstants
+unfoldable pub constants_192 : List StepConstants
 constants_192 =
     row 0x07 0x27 0x08 0x29
     ∷ row 0x04 0x34 0x0c 0x1d
@@ -30,7 +30,7 @@ constants_192 =
     ∷ []
 
 -- of sLiSCP-light-[256]
-abbrev pub constants_256 : List StepConstants
+unfoldable pub constants_256 : List StepConstants
 constants_256 =
     row 0x0f 0x47 0x08 0x64
     ∷ row 0x04 0xb2 0x86 0x6b

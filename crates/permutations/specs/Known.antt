@@ -1,6 +1,6 @@
 -- Published states of the submission's test vectors: the state after step 0, from zeros. Assumes nothing.
 use Rattle.std.specs.Prelude.{◌≡◌, ℕ, List, [], ◌∷◌, replicate}
-use Rattle.permutations.specs.Light.{walk_192, walk_256}
+use Rattle.permutations.specs.Light.{light_192, light_256}
 
 -- FFFF9AFFFFFC 0000640000D5 FFFF9BFFFFFC 0000650000F4
 abbrev pub first_192 : List ℕ
@@ -21,4 +21,4 @@ first_256 =
     ∷ []
 
 abbrev pub KnownStates : Type 0
-KnownStates = (walk_192.step 0 (replicate 24 0) ≡ first_192) × (walk_256.step 0 (replicate 32 0) ≡ first_256)
+KnownStates = (light_192.forward_by 1 (replicate 24 0) ≡ first_192) × (light_256.forward_by 1 (replicate 32 0) ≡ first_256)

@@ -1,6 +1,7 @@
 pub mod Bench
 pub mod Bytes
 pub mod Constants
+pub mod Fault
 pub mod Known
 pub mod Light
 pub mod Permutation
@@ -11,5 +12,6 @@ pub mod Words
 pub mod Xors
 pub mod Loading
 pub mod Walking
+pub mod Whole
 pub mod Boxes
 pub mod Lights

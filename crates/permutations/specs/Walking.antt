@@ -1,11 +1,6 @@
 -- A step and its inverse undo each other, and so do the steps of a table. Assumes nothing.
-use Rattle.std.specs.Prelude.{◌≡◌, ℕ, ◌+◌, ◌-◌, ◌^◌, ◌<◌, ◌≤◌, Bool, true, false, cond, List, [], ◌∷◌, ◌++◌, length, take, drop, Ok, Err, Result, nat_lt, slice_index_or, refl}
+use Rattle.std.specs.Prelude.{◌≡◌, ℕ, ◌^◌, ◌<◌, ◌≤◌, List, [], ◌∷◌, refl}
 use Rattle.std.proofs.Common.{ap, ◌∙◌, arith, pow_mono}
-use Rattle.permutations.specs.declared.permutation.NoSuchStep.{NoSuchStep}
-use Rattle.permutations.specs.Constants.{row}
-use Rattle.permutations.specs.Light.{row_at}
-use Rattle.std.proofs.lemmas.List.{take_more, drop_more}
-use Rattle.std.proofs.lemmas.Bool.{ltb-true}
 use Rattle.std.proofs.lemmas.Nat.{xor_lt}
 use Rattle.std.specs.List.{AllByRecursion}
 use Rattle.permutations.specs.declared.constants.StepConstants.{StepConstants}
@@ -87,34 +82,3 @@ module _ (m : ℕ) (wide : 8 ≤ m) (u : ℕ) where
   unfolding unsteps
   unsteps_fit [] s c h = h
   unsteps_fit (k ∷ ks) s c h = unstep_fit k _ c.0 (unsteps_fit ks s c.1 h)
-
--- ---- one step more
-
-steps_push : (m u : ℕ) (ks : List StepConstants) (k : StepConstants) (s : StateWords) → steps m u (ks ++ (k ∷ [])) s ≡ step m u k (steps m u ks s)
-unfolding steps
-steps_push m u [] k s = refl
-steps_push m u (j ∷ ks) k s = steps_push m u ks k (step m u j s)
-
-pub unsteps_push : (m u : ℕ) (ks : List StepConstants) (k : StepConstants) (s : StateWords) → unsteps m u (ks ++ (k ∷ [])) s ≡ unsteps m u ks (unstep m u k s)
-unfolding unsteps
-unsteps_push m u [] k s = refl
-unsteps_push m u (j ∷ ks) k s = ap (unstep m u j) (unsteps_push m u ks k s)
-
-pub steps_more : (m u : ℕ) (ks : List StepConstants) (i : ℕ) (d : StepConstants) (s : StateWords) → i < length ks → steps m u (take (i + 1) ks) s ≡ step m u (slice_index_or ks i d) (steps m u (take i ks) s)
-steps_more m u ks i d s h = ap (λ z. steps m u z s) (take_more ks i d h) ∙ steps_push m u (take i ks) (slice_index_or ks i d) s
-
-pub unsteps_more : (m u : ℕ) (ks : List StepConstants) (i : ℕ) (d : StepConstants) (s : StateWords) → 0 < i → i ≤ length ks → unsteps m u (drop (i - 1) ks) s ≡ unstep m u (slice_index_or ks (i - 1) d) (unsteps m u (drop i ks) s)
-unfolding unsteps
-unsteps_more m u ks i d s h l =
-    let e : i - 1 + 1 ≡ i = omega arith in
-    ap (λ z. unsteps m u z s) (drop_more ks (i - 1) d (omega arith) ∙ ap (λ n. slice_index_or ks (i - 1) d ∷ drop n ks) e)
-
--- ---- the row of a step
-
-ok_row : (b : Bool) (k x : StepConstants) (y : NoSuchStep) → ◌≡◌ {A = Result StepConstants NoSuchStep} (Ok k) (cond b (Ok x) (Err y)) → (b ≡ true) × (k ≡ x)
-ok_row true k x y e = (refl, cc)
-ok_row false k x y e = let z : ◌≡◌ {A = ℕ} 0 1 = cc in absurd (omega arith)
-
--- where there is one, it is the table's
-pub row_found : (ks : List StepConstants) (i : ℕ) (k : StepConstants) → Ok k ≡ row_at ks i → (i < length ks) × (k ≡ slice_index_or ks i (row 0 0 0 0))
-row_found ks i k e = let x = ok_row (nat_lt i (length ks)) k (slice_index_or ks i (row 0 0 0 0)) (record {}) e in (ltb-true i (length ks) x.0, x.1)

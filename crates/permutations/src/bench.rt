@@ -1,9 +1,10 @@
-ghost use Rattle.std.specs.Prelude.{◌≡◌, ◌≤◌, length, MatchResult};
-ghost use Rattle.permutations.specs.Bench.{bench, bench_walk};
+ghost use Rattle.std.specs.Prelude.{◌≡◌, length, refl};
+ghost use Rattle.permutations.specs.Bench.{forward, backward, bench};
 ghost use Rattle.permutations.specs.Bytes.{xors};
 ghost use Rattle.permutations.specs.Benches;
 
-use crate::permutation::{Bijection, NoSuchStep, Permutation, Stepped, Steps};
+use crate::fault::TooManySteps;
+use crate::permutation::{Bijection, Permutation};
 
 // The bytes of a xored with those of b.
 fn xor_into(a: &[u8], b: &[u8], out: &mut [u8])
@@ -16,17 +17,25 @@ fn xor_into(a: &[u8], b: &[u8], out: &mut [u8])
     }
 }
 
-// Whether i is step 0, the only one.
-fn only_step(i: usize) -> Result<(), NoSuchStep>
-    ensures { MatchResult result (λ _. i ≡ 0) (λ _. 1 ≤ i) }
+// The one step of the bench permutation.
+fn step(state: &mut [u8; 32])
+    ensures { state.new ≡ forward state.old }
 {
-    if i >= 1 {
-        return Err(NoSuchStep);
-    }
-    Ok(())
+    let q = *state;
+    xor_into(&q[24..32], &q[0..8], &mut state[0..8]);
+    state[8..32].copy_from_slice(&q[0..24]);
 }
 
-// The bench permutation: four quarters of 8 bytes, for pencil and paper.
+// The same step undone.
+fn unstep(state: &mut [u8; 32])
+    ensures { state.new ≡ backward state.old }
+{
+    let q = *state;
+    xor_into(&q[0..8], &q[8..16], &mut state[24..32]);
+    state[0..24].copy_from_slice(&q[8..32]);
+}
+
+/// The bench permutation: a state of 32 bytes in four quarters, and one step, for pencil and paper (docs/permutations.md).
 #[derive(Clone, Copy)]
 pub struct Bench;
 
@@ -37,41 +46,29 @@ impl Bijection for Bench {
 }
 
 impl Permutation<32> for Bench {
-    fn sized() {}
+    const STEPS: usize = 1;
 
-    fn forward(state: &mut [u8; 32]) {
-        let q = *state;
-        xor_into(&q[24..32], &q[0..8], &mut state[0..8]);
-        state[8..32].copy_from_slice(&q[0..24]);
-    }
+    ghost STEPS = { 1 };
 
-    fn back(state: &mut [u8; 32]) {
-        let q = *state;
-        xor_into(&q[0..8], &q[8..16], &mut state[24..32]);
-        state[0..24].copy_from_slice(&q[8..32]);
-    }
-}
-
-impl Steps for Bench {
-    ghost walk = { bench_walk };
-
-    ghost walks = { Benches.walks };
-}
-
-impl Stepped<32> for Bench {
-    fn steps() -> usize {
-        1
-    }
-
-    fn step(state: &mut [u8; 32], i: usize) -> Result<(), NoSuchStep> {
-        only_step(i)?;
-        Bench::forward(state);
+    fn forward_by(state: &mut [u8; 32], s: usize) -> Result<(), TooManySteps> {
+        match s {
+            0 => {}
+            1 => step(state),
+            _ => return Err(TooManySteps),
+        }
         Ok(())
     }
 
-    fn unstep(state: &mut [u8; 32], i: usize) -> Result<(), NoSuchStep> {
-        only_step(i)?;
-        Bench::back(state);
+    fn back_by(state: &mut [u8; 32], s: usize) -> Result<(), TooManySteps> {
+        match s {
+            0 => {}
+            1 => unstep(state),
+            _ => return Err(TooManySteps),
+        }
         Ok(())
     }
+
+    ghost sized = { refl };
+
+    ghost steps_is = { refl };
 }

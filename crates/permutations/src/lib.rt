@@ -3,6 +3,7 @@
 
 mod bench;
 mod constants;
+mod fault;
 mod known;
 mod light;
 mod permutation;
@@ -11,6 +12,7 @@ mod steps;
 mod width;
 
 pub use bench::Bench;
+pub use fault::TooManySteps;
 pub use known::{FirstSteps, first_steps};
 pub use light::{Light, Light192, Light256};
-pub use permutation::{Bijection, NoSuchStep, Permutation, Stepped, Steps, there_and_back};
+pub use permutation::{Bijection, Permutation, there_and_back};

@@ -1,29 +1,31 @@
-ghost use Rattle.std.specs.Prelude.{◌≡◌};
+ghost use Rattle.std.specs.Prelude.{◌≡◌, ◌<◌, ◌≤◌, take, refl, MatchResult};
 ghost use Rattle.std.proofs.Common.{lit≤, le_trans};
-ghost use Rattle.permutations.specs.Light.{light, light_walk, row_at};
+ghost use Rattle.permutations.specs.Light.{light};
+ghost use Rattle.permutations.specs.declared.constants.TheConstants.{STEPS};
 ghost use Rattle.permutations.specs.Loading;
 
 use crate::constants::{STEPS, StepConstants};
-use crate::permutation::{Bijection, NoSuchStep, Permutation, Stepped, Steps};
+use crate::fault::TooManySteps;
+use crate::permutation::{Bijection, Permutation};
 use crate::steps::State;
 use crate::width::{Bits24, Bits32, StateBytes, Width};
 use std::marker::PhantomData;
 
-// sLiSCP-light over words of a width.
+/// sLiSCP-light over words of a width: `Light192` and `Light256`. Its full number of steps is 18 (docs/permutations.md).
 #[derive_where(Clone, Copy)]
 pub struct Light<W>(pub PhantomData<W>);
 
-// sLiSCP-light-[192]: a state of 24 bytes.
+/// sLiSCP-light-[192]: a state of 24 bytes.
 pub type Light192 = Light<Bits24>;
 
-// sLiSCP-light-[256]: a state of 32 bytes.
+/// sLiSCP-light-[256]: a state of 32 bytes.
 pub type Light256 = Light<Bits32>;
 
-// The constants of step i, if there is one.
-fn constants_at<W: Width>(i: usize) -> Result<StepConstants, NoSuchStep>
-    ensures { result ≡ row_at W.table i }
+// The constants of the first s steps, if there are so many.
+fn constants_of<W: Width>(s: usize) -> Result<&'static [StepConstants], TooManySteps>
+    ensures { MatchResult result (λ ks. (s ≤ STEPS) × (ks.now ≡ take s W.table)) (λ _. STEPS < s) }
 {
-    W::constants().get(i).copied().ok_or(NoSuchStep)
+    W::constants().get(..s).ok_or(TooManySteps)
 }
 
 impl<W: Width> Bijection for Light<W> {
@@ -33,41 +35,25 @@ impl<W: Width> Bijection for Light<W> {
 }
 
 impl<const B: usize, W: StateBytes<B>> Permutation<B> for Light<W> {
-    fn sized() {}
+    const STEPS: usize = STEPS;
 
-    #[tactic(auto, unfolding(crate::specs::Light::forward))]
-    fn forward(state: &mut [u8; B]) {
-        State::<W>::load(state).forward().store(state);
-    }
+    ghost STEPS = { STEPS };
 
-    #[tactic(auto, unfolding(crate::specs::Light::backward))]
-    fn back(state: &mut [u8; B]) {
-        State::<W>::load(state).back().store(state);
-    }
-}
-
-impl<W: Width> Steps for Light<W> {
-    ghost walk = { light_walk W.BYTES W.ROUNDS W.table };
-
-    ghost walks = { Loading.walks W.BYTES W.ROUNDS W.table W.small W.some (le_trans W.most (lit≤ tt)) };
-}
-
-impl<const B: usize, W: StateBytes<B>> Stepped<B> for Light<W> {
-    fn steps() -> usize {
-        STEPS
-    }
-
-    #[tactic(auto, using(crate::specs::Walking::row_found), unfolding(crate::specs::Light::forward_step))]
-    fn step(state: &mut [u8; B], i: usize) -> Result<(), NoSuchStep> {
-        let constants = constants_at::<W>(i)?;
-        State::<W>::load(state).step(constants).store(state);
+    #[tactic(auto, unfolding(crate::specs::Light::forward_by))]
+    fn forward_by(state: &mut [u8; B], s: usize) -> Result<(), TooManySteps> {
+        let constants = constants_of::<W>(s)?;
+        State::<W>::load(state).forward(constants).store(state);
         Ok(())
     }
 
-    #[tactic(auto, using(crate::specs::Walking::row_found), unfolding(crate::specs::Light::backward_step))]
-    fn unstep(state: &mut [u8; B], i: usize) -> Result<(), NoSuchStep> {
-        let constants = constants_at::<W>(i)?;
-        State::<W>::load(state).unstep(constants).store(state);
+    #[tactic(auto, unfolding(crate::specs::Light::backward_by))]
+    fn back_by(state: &mut [u8; B], s: usize) -> Result<(), TooManySteps> {
+        let constants = constants_of::<W>(s)?;
+        State::<W>::load(state).back(constants).store(state);
         Ok(())
     }
+
+    ghost sized = { W.sized };
+
+    ghost steps_is = { refl };
 }

@@ -1,52 +1,56 @@
-ghost use Rattle.std.specs.Prelude.{◌≡◌};
-ghost use Rattle.permutations.specs.Permutation.{Bytes, Perm, Bijective, Undo, Walk, Walks, step_answer, step_state};
+ghost use Rattle.std.specs.Prelude.{◌≡◌, ℕ};
+ghost use Rattle.permutations.specs.Permutation.{Bytes, Perm, Bijective, Undo, UndoWhole, steps_answer, forward_state, back_state, there_answer};
 
-// What a permutation means: two functions on states of its size that undo each other.
+use crate::fault::TooManySteps;
+
+/// What a permutation means: the size of its states, how many steps it has, and what forward and back by each number
+/// of steps make of a state (docs/permutations.md).
 pub trait Bijection {
     ghost meaning: { Perm };
 
+    /// The law: forward and back keep to states, and undo each other by each number of steps.
     ghost bijective: { Bijective meaning };
 }
 
-// A permutation of states of B bytes.
+/// A permutation of states of B bytes, made of steps that are numbered from 0.
 pub trait Permutation<const B: usize>: Bijection {
-    // B is the size that is meant; generic code calls this to know it.
-    fn sized()
-        ensures { B ≡ Self.Bijection.meaning.size };
+    /// The full number: how many steps there are.
+    const STEPS: usize;
 
-    fn forward(state: &mut [u8; B])
-        ensures { state.new ≡ Self.Bijection.meaning.forward state.old };
+    ghost STEPS: { ℕ };
 
-    fn back(state: &mut [u8; B])
-        ensures { state.new ≡ Self.Bijection.meaning.back state.old };
-}
+    /// Takes the first s steps, 0 to s - 1; of none the state stays. Where there are not so many steps, this is refused
+    /// with 21, and the state stays.
+    fn forward_by(state: &mut [u8; B], s: usize) -> Result<(), TooManySteps>
+        ensures answer { result ≡ steps_answer Self.Bijection.meaning s }
+        ensures state { state.new ≡ forward_state Self.Bijection.meaning s state.old };
 
-// What the steps of a permutation mean: forward is all of them in order, and back undoes them from the last to the first.
-pub trait Steps: Bijection {
-    ghost walk: { Walk };
+    /// Undoes the first s steps, from s - 1 down to 0. Where there are not so many, this is refused with 21, and the
+    /// state stays.
+    fn back_by(state: &mut [u8; B], s: usize) -> Result<(), TooManySteps>
+        ensures answer { result ≡ steps_answer Self.Bijection.meaning s }
+        ensures state { state.new ≡ back_state Self.Bijection.meaning s state.old };
 
-    ghost walks: { Walks Self.Bijection.meaning walk };
-}
+    // B is the size that is meant, and STEPS the full number.
+    ghost sized: { B ≡ Self.Bijection.meaning.size };
 
-// There is no step of that number.
-#[derive(Clone, Copy, Debug, PartialEq, Eq)]
-pub struct NoSuchStep;
+    ghost steps_is: { STEPS ≡ Self.Bijection.meaning.full };
 
-// A permutation whose steps can be taken and undone one at a time.
-pub trait Stepped<const B: usize>: Permutation<B> + Steps {
-    // How many steps forward takes.
-    fn steps() -> usize
-        ensures { result ≡ Self.Steps.walk.count };
+    /// Takes all steps. Refuses nothing.
+    final fn forward(state: &mut [u8; B])
+        ensures { state.new ≡ Self.Bijection.meaning.forward state.old }
+    {
+        // There are so many, so no refusal can come.
+        let _ = Self::forward_by(state, Self::STEPS);
+    }
 
-    // Takes step i, counted from 0.
-    fn step(state: &mut [u8; B], i: usize) -> Result<(), NoSuchStep>
-        ensures answer { result ≡ step_answer Self.Steps.walk i }
-        ensures state { state.new ≡ step_state Self.Steps.walk Self.Steps.walk.step i state.old };
-
-    // Undoes step i.
-    fn unstep(state: &mut [u8; B], i: usize) -> Result<(), NoSuchStep>
-        ensures answer { result ≡ step_answer Self.Steps.walk i }
-        ensures state { state.new ≡ step_state Self.Steps.walk Self.Steps.walk.unstep i state.old };
+    /// Undoes all steps, the last first. Refuses nothing.
+    final fn back(state: &mut [u8; B])
+        ensures { state.new ≡ Self.Bijection.meaning.back state.old }
+    {
+        // There are so many, so no refusal can come.
+        let _ = Self::back_by(state, Self::STEPS);
+    }
 }
 
 // An array of bytes holds bytes: generic code calls this to know it.
@@ -54,16 +58,21 @@ pub(crate) fn holds_bytes<const B: usize>(state: [u8; B])
     ensures { Bytes B state.entry }
 {}
 
-// Forward, whose state is the answer, and then back, which leaves the state as it was. For every permutation each undoes the other on every state.
-pub fn there_and_back<const B: usize, P: Permutation<B>>(state: &mut [u8; B]) -> [u8; B]
-    ensures there { result ≡ P.Bijection.meaning.forward state.old }
+/// Forward by s, whose state is the answer, and then back by s, which leaves the state as it was; 21 where there are not
+/// so many steps. For every permutation each of forward by s and back by s undoes the other on every state, and so do
+/// forward and back.
+pub fn there_and_back<const B: usize, P: Permutation<B>>(
+    state: &mut [u8; B],
+    s: usize,
+) -> Result<[u8; B], TooManySteps>
+    ensures there { result ≡ there_answer P.Bijection.meaning s state.old }
     ensures stays { state.new ≡ state.old }
-    ensures undo { Undo B P.Bijection.meaning }
+    ensures undo { Undo P.Bijection.meaning }
+    ensures whole { UndoWhole P.Bijection.meaning }
 {
     holds_bytes(*state);
-    P::sized();
-    P::forward(state);
+    P::forward_by(state, s)?;
     let there = *state;
-    P::back(state);
-    there
+    P::back_by(state, s)?;
+    Ok(there)
 }

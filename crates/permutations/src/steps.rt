@@ -85,17 +85,17 @@ impl<W: Width> State<W> {
         State { s0, s1, s2, s3 }
     }
 
-    // All steps, the first first.
-    pub(crate) fn forward(self) -> Self
-        ensures { result ≡ steps (8 * W.BYTES) W.ROUNDS W.table self }
+    // The steps with these constants, the first first.
+    pub(crate) fn forward(self, constants: &[StepConstants]) -> Self
+        ensures { result ≡ steps (8 * W.BYTES) W.ROUNDS constants.now self }
     {
-        W::constants().iter().fold(self, |s, k| s.step(*k))
+        constants.iter().fold(self, |s, k| s.step(*k))
     }
 
-    // All steps undone, the last first.
-    pub(crate) fn back(self) -> Self
-        ensures { result ≡ unsteps (8 * W.BYTES) W.ROUNDS W.table self }
+    // The same steps undone, the last first.
+    pub(crate) fn back(self, constants: &[StepConstants]) -> Self
+        ensures { result ≡ unsteps (8 * W.BYTES) W.ROUNDS constants.now self }
     {
-        W::constants().iter().rev().fold(self, |s, k| s.unstep(*k))
+        constants.iter().rev().fold(self, |s, k| s.unstep(*k))
     }
 }

@@ -5,7 +5,7 @@ ghost use Rattle.permutations.specs.declared.constants.TheConstants.{STEPS};
 ghost use Rattle.permutations.specs.Constants.{constants_192, constants_256};
 ghost use Rattle.permutations.specs.Simeck.{turned};
 ghost use Rattle.permutations.specs.Steps.{Small};
-ghost use Rattle.permutations.specs.Lights.{small_192, small_256};
+ghost use Rattle.permutations.specs.Lights.{small_192, long_192, small_256, long_256};
 ghost use Rattle.std.proofs.Common.{lit≤};
 
 use crate::constants::{CONSTANTS_192, CONSTANTS_256, STEPS, StepConstants};
@@ -86,10 +86,11 @@ impl Width for Bits24 {
 
     ghost ones = { refl };
 
-    ghost long = { refl };
+    ghost long = { long_192 };
 
     ghost small = { small_192 };
 
+    #[tactic(auto, unfolding(crate::specs::Constants::constants_192))]
     fn constants() -> &'static [StepConstants; STEPS] {
         &CONSTANTS_192
     }
@@ -131,10 +132,11 @@ impl Width for Bits32 {
 
     ghost ones = { refl };
 
-    ghost long = { refl };
+    ghost long = { long_256 };
 
     ghost small = { small_256 };
 
+    #[tactic(auto, unfolding(crate::specs::Constants::constants_256))]
     fn constants() -> &'static [StepConstants; STEPS] {
         &CONSTANTS_256
     }

@@ -4,12 +4,14 @@ ghost use Rattle.script.specs.Names.{call_named, permutation_named, name_text};
 use crate::unread::Unread;
 use std::fmt;
 
-// A call on a state of a permutation.
+/// A call on a state of a permutation (docs/workbench.md).
 #[derive(Clone, Copy, Debug, PartialEq, Eq)]
 pub enum PermutationCall {
     Forward,
     Back,
     Trace,
+    ForwardBy,
+    BackBy,
 }
 
 // A call of the cipher.
@@ -59,6 +61,8 @@ impl TryFrom<&[u8]> for CallName {
             b"forward" => Ok(CallName::Permutation(PermutationCall::Forward)),
             b"back" => Ok(CallName::Permutation(PermutationCall::Back)),
             b"trace" => Ok(CallName::Permutation(PermutationCall::Trace)),
+            b"forward-by" => Ok(CallName::Permutation(PermutationCall::ForwardBy)),
+            b"back-by" => Ok(CallName::Permutation(PermutationCall::BackBy)),
             b"seal" => Ok(CallName::Cipher(CipherCall::Seal)),
             b"open" => Ok(CallName::Cipher(CipherCall::Open)),
             b"seal-into" => Ok(CallName::Cipher(CipherCall::SealInto)),

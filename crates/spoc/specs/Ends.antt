@@ -7,6 +7,7 @@ use Rattle.std.proofs.lemmas.List.{length-set, length-replicate}
 use Rattle.std.proofs.ByRecursion.{All-append, All-set, All-take, All-drop}
 use Rattle.permutations.specs.Bytes.{xors}
 use Rattle.permutations.specs.Permutation.{Bytes, Perm, Bijective}
+use Rattle.permutations.specs.Whole.{forward_bytes, undo_whole}
 use Rattle.permutations.specs.Xors.{xors_bytes, xors_off}
 use Rattle.permutations.specs.Words.{Byte}
 use Rattle.permutations.specs.Xors.{xor_back}
@@ -96,14 +97,14 @@ all_split P (m ∷ ms) ns h = let r = all_split P ms ns h.1 in ((h.0, r.0), r.1)
 
 module _ (p : Perm) (bij : Bijective p) where
   pub step_bytes : (s m : List ℕ) → Bytes p.size s → Bytes p.size m → Bytes p.size (p.forward (xors s m))
-  step_bytes s m h k = bij.forward_bytes (xors s m) (xored p.size s m h k)
+  step_bytes s m h k = forward_bytes p bij (xors s m) (xored p.size s m h k)
 
   pub run_bytes : (ms : List (List ℕ)) (s : List ℕ) → AllByRecursion (Bytes p.size) ms → Bytes p.size s → Bytes p.size (run p s ms)
   run_bytes [] s h k = k
   run_bytes (m ∷ ms) s h k = run_bytes ms (p.forward (xors s m)) h.1 (step_bytes s m k h.0)
 
   pub forward_same : (s t : List ℕ) → Bytes p.size s → Bytes p.size t → p.forward s ≡ p.forward t → s ≡ t
-  forward_same s t h k e = sym (bij.undo.back_forward s h) ∙ ap p.back e ∙ bij.undo.back_forward t k
+  forward_same s t h k e = let undo = undo_whole p bij in sym (undo.back_forward s h) ∙ ap p.back e ∙ undo.back_forward t k
 
   -- one mask under two states
   pub xors_same : (s t m : List ℕ) → Bytes p.size s → Bytes p.size t → Bytes p.size m → xors s m ≡ xors t m → s ≡ t

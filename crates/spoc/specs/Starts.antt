@@ -8,6 +8,7 @@ use Rattle.std.proofs.lemmas.List.{append_cancel_right}
 use Rattle.permutations.specs.Bench.{bench}
 use Rattle.permutations.specs.Light.{light_192, light_256}
 use Rattle.permutations.specs.Permutation.{Bytes, Bijective}
+use Rattle.permutations.specs.Whole.{forward_bytes}
 use Rattle.spoc.specs.Bench.{bench_plan}
 use Rattle.spoc.specs.Feed.{put}
 use Rattle.spoc.specs.Spoc128.{begin_128, spoc_128}
@@ -96,9 +97,9 @@ sound_64 bij =
     let load : (k n : List ℕ) → Bytes 16 k → Bytes 16 n → Bytes 24 (loaded (take 8 k) (drop 8 k) (take 8 n)) = λ k n bk bn. loaded_bytes (take 8 k) (drop 8 k) (take 8 n) (first_half k bk) (second_half k bk) (first_half n bn) in
     let nonce : (n : List ℕ) → Bytes 16 n → Bytes 24 (put masked_64 (drop 8 n) (replicate 24 0)) = λ n bn. put_bytes 24 masked_64 (drop 8 n) (second_half n bn).small in
     sound_from light_192 spoc_64 refl
-    (λ k n bk bn. xored 24 _ _ (bij.forward_bytes _ (load k n bk bn)) (nonce n bn))
+    (λ k n bk bn. xored 24 _ _ (forward_bytes light_192 bij _ (load k n bk bn)) (nonce n bn))
     (λ k l n bk bl bn e.
-    let states = xors_same light_192 bij _ _ (put masked_64 (drop 8 n) (replicate 24 0)) (bij.forward_bytes _ (load k n bk bn)) (bij.forward_bytes _ (load l n bl bn)) (nonce n bn) e in
+    let states = xors_same light_192 bij _ _ (put masked_64 (drop 8 n) (replicate 24 0)) (forward_bytes light_192 bij _ (load k n bk bn)) (forward_bytes light_192 bij _ (load l n bl bn)) (nonce n bn) e in
     let same = forward_same light_192 bij _ _ (load k n bk bn) (load l n bl bn) states in
     let both = loaded_same (take 8 k) (drop 8 k) (take 8 l) (drop 8 l) (take 8 n) (first_half k bk) (second_half k bk) (first_half l bl) (second_half l bl) same in
     from_halves k l both.0 both.1)

@@ -43,6 +43,4 @@ impl Suite<32> for Bench {
     ghost version_is = { refl };
 
     ghost rate_is = { refl };
-
-    ghost wide = { refl };
 }

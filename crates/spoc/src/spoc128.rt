@@ -48,6 +48,4 @@ impl Suite<32> for Light256 {
     ghost version_is = { refl };
 
     ghost rate_is = { refl };
-
-    ghost wide = { refl };
 }

@@ -79,6 +79,4 @@ impl Suite<24> for Light192 {
     ghost version_is = { refl };
 
     ghost rate_is = { refl };
-
-    ghost wide = { refl };
 }

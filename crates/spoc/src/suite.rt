@@ -36,7 +36,4 @@ pub trait Suite<const B: usize>: Permutation<B> + SuiteModel {
     ghost version_is: { VERSION ≡ Self.SuiteModel.plan.version };
 
     ghost rate_is: { RATE ≡ Self.SuiteModel.plan.rate };
-
-    // A state is as long as the permutation means.
-    ghost wide: { B ≡ Self.Bijection.meaning.size };
 }

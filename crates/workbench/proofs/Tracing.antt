@@ -1,29 +1,20 @@
 -- A trace that is printed step by step. Assumes nothing.
-use Rattle.std.proofs.Common.{◌≡◌, ℕ, suc, ◌+◌, ◌<◌, ltb, List, ◌++◌, sym, refl, ap, ◌∙◌, add-one}
-use Rattle.std.proofs.lemmas.Bool.{lt-ltb, cond-true}
-use Rattle.permutations.specs.Permutation.{Walk, stepped, step_state}
-use Rattle.workbench.specs.Printed.{step_text, trace_text}
+use Rattle.std.proofs.Common.{◌≡◌, ℕ, suc, ◌+◌, ◌≤◌, leb, List, ◌++◌, refl, ap, ◌∙◌, add-one}
+use Rattle.std.proofs.lemmas.Bool.{cond-true}
+use Rattle.std.proofs.Common.{le-leb}
+use Rattle.permutations.specs.Permutation.{Perm, forward_state}
+use Rattle.workbench.specs.States.{step_text, trace_text}
 
-pub stepped_none : (w : Walk) (s : List ℕ) → stepped w 0 s ≡ s
-unfolding stepped
-stepped_none w s = refl
-
-pub trace_none : (w : Walk) (s : List ℕ) → trace_text w 0 s ≡ step_text 0 s
+pub trace_none : (p : Perm) (s : List ℕ) → trace_text p 0 s ≡ step_text 0 s
 unfolding trace_text
-trace_none w s = refl
+trace_none p s = refl
 
--- t is the state after i steps, and u the state after one step more
-module _ (w : Walk) (s t u : List ℕ) (i : ℕ) (within : i < w.count) (is : t ≡ stepped w i s) (next : u ≡ step_state w w.step i t) where
-  stepped_suc : u ≡ stepped w (suc i) s
-  unfolding stepped
-  stepped_suc = next ∙ cond-true (ltb i w.count) (w.step i t) t (lt-ltb i w.count within) ∙ ap (w.step i) is
+trace_suc : (p : Perm) (s : List ℕ) (i : ℕ) → trace_text p i s ++ step_text (suc i) (p.forward_by (suc i) s) ≡ trace_text p (suc i) s
+unfolding trace_text
+trace_suc p s i = refl
 
-  pub stepped_more : u ≡ stepped w (i + 1) s
-  stepped_more = stepped_suc ∙ ap (λ (n : ℕ). stepped w n s) (sym (add-one i))
-
-  trace_suc : trace_text w i s ++ step_text (suc i) u ≡ trace_text w (suc i) s
-  unfolding trace_text
-  trace_suc = ap (λ (x : List ℕ). trace_text w i s ++ step_text (suc i) x) stepped_suc
-
-  pub trace_more : trace_text w i s ++ step_text (i + 1) u ≡ trace_text w (i + 1) s
-  trace_more = rw (add-one i) trace_suc
+-- u is the state after i + 1 steps
+pub trace_more : (p : Perm) (s u : List ℕ) (i : ℕ) → i + 1 ≤ p.full → u ≡ forward_state p (i + 1) s → trace_text p i s ++ step_text (i + 1) u ≡ trace_text p (i + 1) s
+trace_more p s u i within is =
+    ap (λ (x : List ℕ). trace_text p i s ++ step_text (i + 1) x) (is ∙ cond-true (leb (i + 1) p.full) (p.forward_by (i + 1) s) s (le-leb (i + 1) p.full within))
+    ∙ rw (add-one i) (trace_suc p s i)

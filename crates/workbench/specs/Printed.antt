@@ -1,10 +1,9 @@
 -- What each line of a script prints, and the card that is being written after it. Assumes nothing.
 use Rattle.std.specs.Prelude.{◌≡◌, ℕ, zero, suc, false, cond, ◌⊎◌, List, [], ◌∷◌, ◌++◌, length, Some, None, Ok, Err, string_bytes, codes, decimal, Option, Result, String, ◌==◌}
 use Rattle.std.specs.declared.alloc.Global.{Global}
-use Rattle.permutations.specs.Bench.{bench, bench_walk}
-use Rattle.permutations.specs.Light.{light_192, light_256, walk_192, walk_256}
-use Rattle.permutations.specs.Permutation.{Perm, Walk, stepped}
-use Rattle.script.specs.Hex.{bytes_of, hex_text}
+use Rattle.permutations.specs.Bench.{bench}
+use Rattle.permutations.specs.Light.{light_192, light_256}
+use Rattle.permutations.specs.Permutation.{Perm}
 use Rattle.sealers.specs.Names.{cipher_of}
 use Rattle.script.specs.Lines.{silent, trimmed}
 use Rattle.script.specs.Names.{call_named, permutation_named}
@@ -14,53 +13,27 @@ use Rattle.script.specs.declared.CallName.{CallName}
 use Rattle.script.specs.declared.CallName.TheVariants.{Permutation, Cipher, Reader, Write, Writer}
 use Rattle.script.specs.declared.CipherCall.{CipherCall}
 use Rattle.script.specs.declared.PermutationCall.{PermutationCall}
-use Rattle.script.specs.declared.PermutationCall.TheVariants.{Forward, Back, Trace}
 use Rattle.script.specs.declared.PermutationName.{PermutationName}
 use Rattle.script.specs.declared.PermutationName.TheVariants.{Light192, Light256, Bench}
 use Rattle.script.specs.declared.Unread.{Unread}
-use Rattle.script.specs.declared.Unread.TheVariants.{StateLength, NoCard, CardOpen, Memory}
+use Rattle.script.specs.declared.Unread.TheVariants.{NoCard, CardOpen, Memory}
 use Rattle.script.specs.declared.WriterCall.{WriterCall}
 use Rattle.script.specs.declared.WriterCall.TheVariants.{Append, Close, End}
 use Rattle.card_calls.specs.Readings.{reader_asked}
 use Rattle.card_calls.specs.Versions.{sealer_named}
 use Rattle.card_calls.specs.Writings.{Draft, draft_of, append_of, close_of, with_call, draft_text}
 use Rattle.workbench.specs.Sealings.{cipher_asked}
+use Rattle.workbench.specs.States.{state_asked}
 
--- state STATE
-abbrev pub state_text : List ℕ → List ℕ
-state_text s = codes "state " ++ (hex_text s ++ (10 ∷ []))
+-- the permutation of a name
+abbrev pub permutation_of : PermutationName → Perm
+permutation_of Light192 = light_192
+permutation_of Light256 = light_256
+permutation_of Bench = bench
 
--- step I STATE
-abbrev pub step_text : ℕ → List ℕ → List ℕ
-step_text i s = codes "step " ++ (decimal i ++ (codes " " ++ (hex_text s ++ (10 ∷ []))))
-
--- a state and the states after each of its first n steps
-unfoldable pub trace_text : Walk → ℕ → List ℕ → List ℕ
-trace_text w zero s = step_text 0 s
-trace_text w (suc n) s = trace_text w n s ++ step_text (suc n) (stepped w (suc n) s)
-
--- what a call prints of a state
-abbrev pub call_text : Perm → Walk → PermutationCall → List ℕ → List ℕ
-call_text p w Forward s = state_text (p.forward s)
-call_text p w Back s = state_text (p.back s)
-call_text p w Trace s = trace_text w w.count s
-
--- the same of bytes, which may be of another length than a state
-abbrev pub call_answer : PermutationName → Perm → Walk → PermutationCall → List ℕ → Result (List ℕ) Unread
-call_answer of p w call s = cond (length s == p.size) (Ok (call_text p w call s)) (Err (StateLength of p.size (length s)))
-
--- the permutation that a name stands for
-abbrev pub named_answer : PermutationName → PermutationCall → List ℕ → Result (List ℕ) Unread
-named_answer Light192 = call_answer Light192 light_192 walk_192
-named_answer Light256 = call_answer Light256 light_256 walk_256
-named_answer Bench = call_answer Bench bench bench_walk
-
--- PERMUTATION STATE, the words of a call on a permutation
+-- a call on a permutation reads its name first
 abbrev pub permutation_asked : PermutationCall → List (List ℕ) → Result (List ℕ) Unread
-permutation_asked call ws =
-    with_next permutation_named ws (λ of ws.
-    with_next bytes_of ws (λ s ws.
-    with_read (ending ws) (λ _. named_answer of call s)))
+permutation_asked call ws = with_next permutation_named ws (λ of ws. state_asked of (permutation_of of) call ws)
 
 -- a call of the cipher reads a version first
 abbrev pub version_asked : CipherCall → List (List ℕ) → Result (List ℕ) Unread

@@ -4,6 +4,7 @@
 mod calls;
 mod cipher;
 mod session;
+mod states;
 
 use session::Workbench;
 use std::io::{BufRead, BufReader};

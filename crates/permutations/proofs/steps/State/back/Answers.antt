@@ -9,6 +9,6 @@ pub returns : goal.returns
 returns g c =
     let m = 8 * g.W.Width.BYTES in
     let u = g.W.Width.ROUNDS in
-    let ks = g.W.Width.table in
+    let ks = c.args.constants.now in
     fold_from_yields_List _ (λ s k. unstep m u k s) c.args.self c.fold.result c.fold.ensures.ran (YieldsList-from_rev_slice ks cc) (λ s k r q d. search (rules, tests))
     ∙ sym (unsteps_fold m u ks c.args.self)

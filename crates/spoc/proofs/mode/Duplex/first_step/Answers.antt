@@ -8,4 +8,4 @@ returns g c =
     let s = c.args.self.now.state in
     let long : length s ≡ g.row.B = search rules in
     c.forward.ensures
-    ∙ ap p.forward (c.control_in.ensures ∙ first_in p g.S.SuiteModel.plan g.met.S.SuiteModel.sound s c.args.ends c.flag_of.result (long ∙ g.met.S.Suite.wide) c.flag_of.ensures)
+    ∙ ap p.forward (c.control_in.ensures ∙ first_in p g.S.SuiteModel.plan g.met.S.SuiteModel.sound s c.args.ends c.flag_of.result (long ∙ g.met.S.Permutation.sized) c.flag_of.ensures)

@@ -10,15 +10,15 @@ pub loop-place-init : goal.loop-place-init
 loop-place-init g c =
     let s = c.args.self.now.state in
     let long : length s ≡ g.row.B = search rules in
-    (search rules, search rules, sym (xors_zeros s g.S.Bijection.meaning.size (omega (arith, long, g.met.S.Suite.wide))))
+    (search rules, search rules, sym (xors_zeros s g.S.Bijection.meaning.size (omega (arith, long, g.met.S.Permutation.sized))))
 
 pub bounds-self-place : goal.bounds-self-place
 bounds-self-place g c =
-    zip_inside g.S.Bijection.meaning g.S.SuiteModel.plan g.met.S.SuiteModel.sound c.args.bytes.now g.row.B g.met.S.Suite.wide c.loop-place.yielded _ _ c.next.new.self _ (search rules) (search rules) c.loop-place.yielded_by (c.in-Some.place, c.in-Some.byte) c.in-Some.is c.next.ensures.steps
+    zip_inside g.S.Bijection.meaning g.S.SuiteModel.plan g.met.S.SuiteModel.sound c.args.bytes.now g.row.B g.met.S.Permutation.sized c.loop-place.yielded _ _ c.next.new.self _ (search rules) (search rules) c.loop-place.yielded_by (c.in-Some.place, c.in-Some.byte) c.in-Some.is c.next.ensures.steps
 
 pub bounds-self-place-in-loop-place : goal.bounds-self-place-in-loop-place
 bounds-self-place-in-loop-place g c =
-    zip_inside g.S.Bijection.meaning g.S.SuiteModel.plan g.met.S.SuiteModel.sound c.args.bytes.now g.row.B g.met.S.Suite.wide c.loop-place.yielded _ _ c.next.new.self _ (search rules) (search rules) c.loop-place.yielded_by (c.in-Some.place, c.in-Some.byte) c.in-Some.is c.next.ensures.steps
+    zip_inside g.S.Bijection.meaning g.S.SuiteModel.plan g.met.S.SuiteModel.sound c.args.bytes.now g.row.B g.met.S.Permutation.sized c.loop-place.yielded _ _ c.next.new.self _ (search rules) (search rules) c.loop-place.yielded_by (c.in-Some.place, c.in-Some.byte) c.in-Some.is c.next.ensures.steps
 
 pub loop-place-preserved : goal.loop-place-preserved
 loop-place-preserved g c =

@@ -7,7 +7,7 @@ use Rattle.spoc.proofs.mode.Duplex.tag_agrees.Goals as goal
 
 pub bounds-self-place : goal.bounds-self-place
 bounds-self-place g c =
-    zip_inside g.S.Bijection.meaning g.S.SuiteModel.plan g.met.S.SuiteModel.sound c.args.tag.now g.row.B g.met.S.Suite.wide c.loop-place.yielded _ _ c.next.new.self _ (search rules) (search rules) c.loop-place.yielded_by (c.in-Some.place, c.in-Some.byte) c.in-Some.is c.next.ensures.steps
+    zip_inside g.S.Bijection.meaning g.S.SuiteModel.plan g.met.S.SuiteModel.sound c.args.tag.now g.row.B g.met.S.Permutation.sized c.loop-place.yielded _ _ c.next.new.self _ (search rules) (search rules) c.loop-place.yielded_by (c.in-Some.place, c.in-Some.byte) c.in-Some.is c.next.ensures.steps
 
 pub loop-place-preserved : goal.loop-place-preserved
 loop-place-preserved g c =

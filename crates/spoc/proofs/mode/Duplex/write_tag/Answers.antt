@@ -6,7 +6,7 @@ use Rattle.spoc.proofs.mode.Duplex.write_tag.Goals as goal
 pub bounds-self-place : goal.bounds-self-place
 bounds-self-place g c =
     let ps = c.masked_places-place-items.ensures in
-    masked_turn g.S.Bijection.meaning g.S.SuiteModel.plan g.met.S.SuiteModel.sound c.loop-i.i _ g.row.B (omega (arith, ap length ps)) (ap (λ l. get_or l c.loop-i.i 0) ps) g.met.S.Suite.wide
+    masked_turn g.S.Bijection.meaning g.S.SuiteModel.plan g.met.S.SuiteModel.sound c.loop-i.i _ g.row.B (omega (arith, ap length ps)) (ap (λ l. get_or l c.loop-i.i 0) ps) g.met.S.Permutation.sized
 
 pub returns : goal.returns
 returns g c =

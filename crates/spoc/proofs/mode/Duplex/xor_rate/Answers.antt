@@ -8,5 +8,5 @@ xor_places-requires g c =
     let inside : (i : ℕ) → i < length ps → get_or ps i 0 < g.row.B =
     λ i h.
     let same : get_or ps i 0 ≡ get_or g.S.SuiteModel.plan.rate_places i 0 = ap (λ l. get_or l i 0) c.rate_places-places.ensures in
-    omega (arith, same, rate_inside g.S.Bijection.meaning g.S.SuiteModel.plan g.met.S.SuiteModel.sound i (omega (arith, c.requires.fits)), g.met.S.Suite.wide) in
+    omega (arith, same, rate_inside g.S.Bijection.meaning g.S.SuiteModel.plan g.met.S.SuiteModel.sound i (omega (arith, c.requires.fits)), g.met.S.Permutation.sized) in
     search rules

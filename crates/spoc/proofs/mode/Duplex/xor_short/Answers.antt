@@ -13,7 +13,7 @@ xor_places-requires g c =
     λ i h.
     let front : i < n = omega (arith, length-take n ps) in
     let at : get_or (take n ps) i 0 ≡ get_or g.S.SuiteModel.plan.rate_places i 0 = get_or-take n ps i 0 front ∙ ap (λ l. get_or l i 0) c.rate_places.ensures in
-    omega (arith, at, rate_inside g.S.Bijection.meaning g.S.SuiteModel.plan g.met.S.SuiteModel.sound i (omega (arith, c.requires.fits)), g.met.S.Suite.wide) in
+    omega (arith, at, rate_inside g.S.Bijection.meaning g.S.SuiteModel.plan g.met.S.SuiteModel.sound i (omega (arith, c.requires.fits)), g.met.S.Permutation.sized) in
     search rules
 
 pub returns : goal.returns

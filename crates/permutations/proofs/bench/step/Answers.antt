@@ -1,6 +1,6 @@
 use Rattle.std.proofs.Common.{rules}
 use Rattle.permutations.specs.Benches.{forward_made}
-use Rattle.permutations.proofs.bench.BenchPermutation32.forward.Goals as goal
+use Rattle.permutations.proofs.bench.step.Goals as goal
 
 pub returns : goal.returns
 returns c = forward_made c.args.state.now c.xor_into.new.out c.copy_from_slice.new.self (search rules) c.xor_into.ensures c.copy_from_slice.ensures.after
