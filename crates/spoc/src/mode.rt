@@ -1,4 +1,4 @@
-ghost use Rattle.std.specs.Prelude.{◌≡◌, ℕ, ◌<◌, ◌≤◌, ◌++◌, length, take, drop, if◌then◌else◌, bit_xor, slice_index, slice_set};
+ghost use Rattle.std.specs.Prelude.{◌≡◌, ℕ, ◌<◌, ◌≤◌, ◌++◌, length, take, drop, replicate, if◌then◌else◌, bit_xor, slice_index, slice_set};
 ghost use Rattle.std.specs.Str.{bytes_eq};
 ghost use Rattle.permutations.specs.Bytes.{xors};
 ghost use Rattle.spoc.specs.Feed.{padded, put, zero_mask, mask_with, masks, control_place, run, pick};
@@ -17,23 +17,15 @@ const MESSAGE: u8 = 0x40;
 // What the last mask of a feed has in its control byte beside the rest.
 const LAST: u8 = 0x80;
 
+// What follows a short block.
+const PAD: u8 = 0x80;
+
 // Whether a message goes in and its ciphertext comes out, or the other way round. An enum and no closure: the contract of the loop
 // says what comes out of each way, and matches on it.
 #[derive(Clone, Copy)]
 pub enum Way {
     Seal,
     Open,
-}
-
-// A short block, followed by 0x80 and zeros.
-fn padded_block(block: &[u8]) -> [u8; 16]
-    requires { length block.now < 16 }
-    ensures { result ≡ padded 16 block.now }
-{
-    let mut bytes = [0; 16];
-    bytes[..block.len()].copy_from_slice(block);
-    bytes[block.len()] = 0x80;
-    bytes
 }
 
 // The control byte of a block, full or short, of which `last` says whether it is the last of the feed.
@@ -64,13 +56,19 @@ pub(crate) struct Duplex<const B: usize, S> {
 }
 
 impl<const B: usize, S: Suite<B>> Duplex<B, S> {
-    fn new(key: &[u8; 16], nonce: &[u8; 16]) -> Self
-        ensures { result.state ≡ start S.Bijection.meaning S.SuiteModel.plan key.now nonce.now }
-    {
+    // A state of zeros, in which a cipher can begin.
+    pub(crate) fn zeros() -> Self {
         Duplex {
-            state: S::start(key, nonce),
+            state: [0; B],
             suite: PhantomData,
         }
+    }
+
+    // Zeros where the state was.
+    fn wipe(&mut self)
+        ensures { self.new.state ≡ replicate B 0 }
+    {
+        self.state.fill(0);
     }
 
     pub(crate) fn forward(&mut self)
@@ -79,14 +77,24 @@ impl<const B: usize, S: Suite<B>> Duplex<B, S> {
         S::forward(&mut self.state);
     }
 
-    // As many bytes as there are masked places, xored into these.
+    // As many bytes as there are masked places, or fewer, xored into the first of these.
     fn mask_in(&mut self, bytes: &[u8])
-        requires { length bytes.now ≡ S.SuiteModel.plan.rate }
+        requires { length bytes.now ≤ S.SuiteModel.plan.rate }
         ensures { self.new.state ≡ xors self.old.state (put S.SuiteModel.plan.masked_places bytes.now (zero_mask S.Bijection.meaning)) }
     {
         for (place, byte) in S::masked_places().iter().zip(bytes) {
             self.state[*place] ^= *byte;
         }
+    }
+
+    // A short block and 0x80 after it, xored into the masked places. The zeros that follow would change nothing: no padded copy is made.
+    fn mask_short(&mut self, block: &[u8])
+        requires { length block.now < S.SuiteModel.plan.rate }
+        ensures { self.new.state ≡ xors self.old.state (put S.SuiteModel.plan.masked_places (padded S.SuiteModel.plan.rate block.now) (zero_mask S.Bijection.meaning)) }
+    {
+        self.mask_in(block);
+        let place = S::masked_places()[block.len()];
+        self.state[place] ^= PAD;
     }
 
     // A block, padded if it is short, xored into the masked places. All that a block goes through is inlined: the compiler
@@ -97,7 +105,7 @@ impl<const B: usize, S: Suite<B>> Duplex<B, S> {
         ensures { self.new.state ≡ xors self.old.state (put S.SuiteModel.plan.masked_places (padded S.SuiteModel.plan.rate block.now) (zero_mask S.Bijection.meaning)) }
     {
         if block.len() < S::RATE {
-            self.mask_in(&padded_block(block)[..S::RATE]);
+            self.mask_short(block);
         } else {
             // Of a part cut to RATE the compiler knows the length: without, bench is up to an eighth slower.
             self.mask_in(&block[..S::RATE]);
@@ -151,14 +159,13 @@ impl<const B: usize, S: Suite<B>> Duplex<B, S> {
         }
     }
 
-    // The state before the message, or its ciphertext: the zero mask and the data are in.
-    pub(crate) fn at_message(key: &[u8; 16], nonce: &[u8; 16], data: &[u8], message: &[u8]) -> Self
-        ensures { result.state ≡ at_message S.Bijection.meaning S.SuiteModel.plan (start S.Bijection.meaning S.SuiteModel.plan key.now nonce.now) «data».now message.now }
+    // The state before the message, or its ciphertext: key, nonce, the zero mask and the data are in.
+    pub(crate) fn begin(&mut self, key: &[u8; 16], nonce: &[u8; 16], data: &[u8], message: &[u8])
+        ensures { self.new.state ≡ at_message S.Bijection.meaning S.SuiteModel.plan (start S.Bijection.meaning S.SuiteModel.plan key.now nonce.now) «data».now message.now }
     {
-        let mut duplex = Self::new(key, nonce);
-        duplex.first_step(data.is_empty() & message.is_empty());
-        duplex.absorb_data(data, message.is_empty());
-        duplex
+        S::start(&mut self.state, key, nonce);
+        self.first_step(data.is_empty() & message.is_empty());
+        self.absorb_data(data, message.is_empty());
     }
 
     // A block xored with as many places. Written by index: what goes through an iter_mut in a zip is lost to a proof.
@@ -242,7 +249,7 @@ impl<const B: usize, S: Suite<B>> Duplex<B, S> {
     }
 
     // The masked places of the end state, written by index as in xor_places.
-    pub(crate) fn write_tag(&self, tag: &mut [u8])
+    fn write_tag(&self, tag: &mut [u8])
         requires { length tag.old ≡ S.SuiteModel.plan.rate }
         ensures { tag.new ≡ pick S.SuiteModel.plan.masked_places self.now.state }
     {
@@ -252,7 +259,7 @@ impl<const B: usize, S: Suite<B>> Duplex<B, S> {
     }
 
     // Whether the tag is that of the end state; every byte is compared, wherever the first difference is.
-    pub(crate) fn tag_agrees(&self, tag: &[u8]) -> bool
+    fn tag_agrees(&self, tag: &[u8]) -> bool
         requires { length tag.now ≡ S.SuiteModel.plan.rate }
         ensures { result ≡ bytes_eq (pick S.SuiteModel.plan.masked_places self.now.state) tag.now }
     {
@@ -261,5 +268,29 @@ impl<const B: usize, S: Suite<B>> Duplex<B, S> {
             difference |= self.state[*place] ^ *byte;
         }
         difference == 0
+    }
+
+    // The tag, and then zeros in the state. Each end is a call: were it inlined into seal, where the state is a local that nobody reads
+    // again, the compiler would leave out the zeros. A call that did nothing else would go too; this one writes the tag.
+    #[inline(never)]
+    pub(crate) fn finish(&mut self, tag: &mut [u8])
+        requires { length tag.old ≡ S.SuiteModel.plan.rate }
+        ensures tag { tag.new ≡ pick S.SuiteModel.plan.masked_places self.old.state }
+        ensures wiped { self.new.state ≡ replicate B 0 }
+    {
+        self.write_tag(tag);
+        self.wipe();
+    }
+
+    // Whether the tag is that of the end state, and then zeros in the state: a call as finish, which answers.
+    #[inline(never)]
+    pub(crate) fn verify(&mut self, tag: &[u8]) -> bool
+        requires { length tag.now ≡ S.SuiteModel.plan.rate }
+        ensures agrees { result ≡ bytes_eq (pick S.SuiteModel.plan.masked_places self.old.state) tag.now }
+        ensures wiped { self.new.state ≡ replicate B 0 }
+    {
+        let agrees = self.tag_agrees(tag);
+        self.wipe();
+        agrees
     }
 }
