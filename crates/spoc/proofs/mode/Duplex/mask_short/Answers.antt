@@ -10,7 +10,7 @@ place_is g c = ap (λ l. get_or l (length c.args.block.now) 0) c.masked_places.e
 
 place_inside : (g : given.Over) (c : After-masked_places g) → get_or c.masked_places.result.now (length c.args.block.now) 0 < g.row.B
 place_inside g c =
-    omega (arith, place_is g c, masked_inside g.S.Bijection.meaning g.S.SuiteModel.plan g.met.S.SuiteModel.sound (length c.args.block.now) c.requires, g.met.S.Suite.wide)
+    omega (arith, place_is g c, masked_inside g.S.Bijection.meaning g.S.SuiteModel.plan g.met.S.SuiteModel.sound (length c.args.block.now) c.requires, g.met.S.Permutation.sized)
 
 pub bounds-self-place : goal.bounds-self-place
 bounds-self-place g c = place_inside g (goal.at.bounds-self-place g c).After-masked_places
