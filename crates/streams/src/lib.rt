@@ -1,0 +1,8 @@
+//! Reading and writing that say what is left where a call fails.
+#![tactic(auto)]
+
+mod reading;
+mod writing;
+
+pub use reading::read_front;
+pub use writing::{LINE_BYTES, write_bytes, write_line};
