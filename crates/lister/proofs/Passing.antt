@@ -9,9 +9,10 @@ use Rattle.cards.specs.Reader.{Card, check, check_bytes, checked, filled, sheet_
 use Rattle.cards.proofs.Reading.{from_bytes, passed_reads}
 use Rattle.cards.proofs.Records.{Fit}
 use Rattle.reader.specs.Cards.{passes}
-use Rattle.reader.specs.Heads.{headed}
-use Rattle.lister.proofs.Lines.{nothing}
-use Rattle.lister.specs.Printed.{sheet_lines, card_line, listed, Holds}
+use Rattle.reader.specs.Heads.{a_head, headed}
+use Rattle.reader.specs.declared.SheetHead.{SheetHead}
+use Rattle.lister.proofs.Lines.{line, nothing}
+use Rattle.lister.specs.Printed.{sheet_line, sheet_lines, card_line, listed, Holds}
 
 module _ (S : Sealing) (key bs : List ℕ) (hk : length key ≡ 16) where
   goes_on : check S key 16 bs ≡ and_then (check_bytes S key bs) (λ xs. Ok (checked S key bs xs))
@@ -57,9 +58,17 @@ module _ (S : Sealing) (key bs : List ℕ) (hk : length key ≡ 16) where
       }
 
 -- what sheet answers of a card whose sheets are these
-pub shows : (S : Sealing) (c : Card) (i b : ℕ) (xs : List Sheet) → Holds S c xs → i < length xs → b ≡ 4096
+shows : (S : Sealing) (c : Card) (i b : ℕ) (xs : List Sheet) → Holds S c xs → i < length xs → b ≡ 4096
     → headed (sheet_answer S c i b) ≡ headed (Ok (get_or xs i nothing))
 shows S c i b xs h lt full = ap (λ k. headed (sheet_answer S c i k)) full ∙ ap headed (h.gives i nothing lt)
+
+-- the line of what sheet answers
+pub line_is : (S : Sealing) (c : Card) (i b : ℕ) (xs : List Sheet) (h : SheetHead) → Holds S c xs → i < length xs → b ≡ 4096 → Ok h ≡ headed (sheet_answer S c i b)
+    → sheet_line i h.cell h.edition h.«length» ≡ line i (get_or xs i nothing)
+line_is S c i b xs h holds lt full e =
+    let is : Ok h ≡ headed (Ok (get_or xs i nothing)) = e ∙ shows S c i b xs holds lt full in
+    let same : h ≡ a_head (get_or xs i nothing).cell (get_or xs i nothing).edition (length (get_or xs i nothing).body) = cc in
+    ap (λ (x : SheetHead). sheet_line i x.cell x.edition x.«length») same
 
 pub never_refused : (S : Sealing) (c : Card) (i b : ℕ) (xs : List Sheet) (f : Fault) → Holds S c xs → i < length xs → b ≡ 4096 → Err f ≡ headed (sheet_answer S c i b) → ⊥
 never_refused S c i b xs f h lt full e = let q = e ∙ shows S c i b xs h lt full in let z : ◌≡◌ {A = ℕ} 0 1 = cc in omega arith

@@ -1,8 +1,8 @@
 -- Fronts of known bytes.
-use Rattle.std.proofs.Common.{◌≡◌, ℕ, ◌≤◌, List, [], ◌∷◌, ◌++◌, length, take, drop, Some, None, Option, sym, refl, ap, ◌∙◌, subst, append-nil, take_all, drop_of_length-le}
+use Rattle.std.proofs.Common.{◌≡◌, ℕ, ◌≤◌, List, [], ◌∷◌, ◌++◌, length, take, drop, Some, None, Option, sym, refl, ap, ◌∙◌, subst, append-nil, append_assoc, take-append-drop, take_all, drop_of_length-le}
 use Rattle.std.proofs.Math.Seq.{take-append_seam}
 use Rattle.std.specs.Io.KnownBytes.{Appends, Consumes, IsAtEnd}
-
+use Rattle.std.proofs.KnownBytes.{Appends-trans}
 use Rattle.streams.specs.Fronts.{ReadsFront, LosesFront, AppendsFront}
 
 drop_front : (bs ys : List ℕ) → drop (length bs) (bs ++ ys) ≡ ys
@@ -38,3 +38,14 @@ reads_rest k (Some xs) (Some ys) bs le end h =
 -- a front of a text was written
 pub fronts : (a b : Option (List ℕ)) (text front rest : List ℕ) → text ≡ front ++ rest → Appends a b front → AppendsFront a b text
 fronts a b text front rest is h = (length front, subst (Appends a b) (sym (ap (take (length front)) is ∙ take-append_seam front rest)) h)
+
+-- the same of a part that was written only to a front, after what was written before it
+pub fronts_more : (a b c : Option (List ℕ)) (text done part rest : List ℕ) → text ≡ done ++ (part ++ rest) → Appends a b done → AppendsFront b c part → AppendsFront a c text
+fronts_more a b c text done part rest is h f =
+    let n = f.0 in
+    let split =
+    is
+    ∙ ap (λ (l : List ℕ). done ++ (l ++ rest)) (sym (take-append-drop n part))
+    ∙ ap (λ (l : List ℕ). done ++ l) (append_assoc (take n part) (drop n part) rest)
+    ∙ sym (append_assoc done (take n part) (drop n part ++ rest)) in
+    fronts a c text (done ++ take n part) (drop n part ++ rest) split (Appends-trans a b c done (take n part) h f.1)

@@ -1,8 +1,7 @@
 ghost use Rattle.std.specs.Prelude.{IfSome};
 ghost use Rattle.streams.specs.Fronts.{Writes};
 
-use std::fmt::{Display, InlineText};
-use std::fmt::Write as _;
+use std::fmt::{Display, InlineText, Write as _};
 use std::io;
 use std::io::{ErrorKind, Write};
 

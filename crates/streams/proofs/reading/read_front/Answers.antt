@@ -26,7 +26,7 @@ loop-preserved g c =
     let new = put_mid from room c.loop.buffer c.read.new.buf in
     let front = take-put_mid_below _ _ _ _ _ (le_refl _) within in
     elim c.match-read.branch [
-      in-Ok w ↦
+      | in-Ok w ↦
           let part = slice_range-put_mid from room w.in-Ok.n c.loop.buffer c.read.new.buf within w.in-Ok.ensures.bound.0 in
           let joined = take_split from (from + w.in-Ok.n) c.loop.buffer new (omega arith) front in
           (search rules, search rules, subst (Consumes _ _) (ap (λ l. take from c.loop.buffer ++ l) (sym part) ∙ joined ∙ ap (λ n. take n new) (sym w.filled-is)) (Consumes-trans _ _ _ _ _ c.loop.invariant.2 w.in-Ok.ensures.bytes.0))

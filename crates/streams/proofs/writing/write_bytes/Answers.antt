@@ -17,7 +17,7 @@ loop-preserved g c =
     let (done, split, appended) = c.loop.invariant in
     let rest = c.loop.rest.now in
     elim c.match-write.branch [
-      in-Ok w ↦
+      | in-Ok w ↦
           let n = w.in-Ok.n in
           (done ++ take n rest, moves_front _ done rest n split ∙ ap (λ (r : Bor (List ℕ)). (done ++ take n rest) ++ r.now) (sym w.rest-is), Appends-trans _ _ _ _ _ appended w.in-Ok.ensures.bytes)
       | in-Err+else-ne w ↦ (done, split ∙ ap (λ (r : Bor (List ℕ)). done ++ r.now) (sym w.rest-is), Appends-kept _ _ _ _ appended w.in-Err.ensures.bytes)
