@@ -1,3 +1,3 @@
 pub mod Lines
 pub mod Passing
-pub mod Reading
+pub mod Writing

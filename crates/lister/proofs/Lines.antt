@@ -1,13 +1,13 @@
 -- The lines of sheets, one after the other.
-use Rattle.std.proofs.Common.{◌≡◌, ℕ, suc, ◌+◌, ◌<◌, List, [], ◌∷◌, ◌++◌, length, get_or, take, sym, refl, ap, ◌∙◌, arith}
-use Rattle.std.proofs.lemmas.List.{append_assoc, append-nil, length-take-le, take_more}
+use Rattle.std.proofs.Common.{◌≡◌, ℕ, suc, ◌+◌, ◌<◌, List, [], ◌∷◌, ◌++◌, length, get_or, take, drop, sym, refl, ap, ◌∙◌, arith}
+use Rattle.std.proofs.lemmas.List.{append_assoc, append-nil, take-append-drop, length-take-le, take_more}
 use Rattle.cards.specs.Format.{Sheet, a_sheet}
 use Rattle.lister.specs.Printed.{sheet_line, sheet_lines}
 
-abbrev line : ℕ → Sheet → List ℕ
+abbrev pub line : ℕ → Sheet → List ℕ
 line i s = sheet_line i s.cell s.edition (length s.body)
 
-lines_none : (i : ℕ) → sheet_lines i [] ≡ []
+pub lines_none : (i : ℕ) → sheet_lines i [] ≡ []
 unfolding sheet_lines
 lines_none i = refl
 
@@ -28,7 +28,7 @@ abbrev pub nothing : Sheet
 nothing = a_sheet 0 0 []
 
 -- one sheet more
-lines_more : (xs : List Sheet) (i : ℕ) → i < length xs → sheet_lines 0 (take (i + 1) xs) ≡ sheet_lines 0 (take i xs) ++ line i (get_or xs i nothing)
+pub lines_more : (xs : List Sheet) (i : ℕ) → i < length xs → sheet_lines 0 (take (i + 1) xs) ≡ sheet_lines 0 (take i xs) ++ line i (get_or xs i nothing)
 lines_more xs i lt =
     let d = nothing in
     let e : 0 + length (take i xs) ≡ i = ap (λ k. 0 + k) (length-take-le i xs (omega arith)) ∙ omega arith in
@@ -37,10 +37,12 @@ lines_more xs i lt =
     ∙ ap (λ k. sheet_lines 0 (take i xs) ++ sheet_lines k (get_or xs i d ∷ [])) e
     ∙ ap (λ (z : List ℕ). sheet_lines 0 (take i xs) ++ z) (one i (get_or xs i d))
 
--- no sheet yet, after a text
-pub text_none : (t : List ℕ) → t ++ sheet_lines 0 [] ≡ t
-text_none t = ap (λ (l : List ℕ). t ++ l) (lines_none 0) ∙ append-nil t
-
--- one sheet more, after a text
-pub text_more : (t : List ℕ) (xs : List Sheet) (i : ℕ) → i < length xs → t ++ sheet_lines 0 (take (i + 1) xs) ≡ (t ++ sheet_lines 0 (take i xs)) ++ line i (get_or xs i nothing)
-text_more t xs i lt = ap (λ (l : List ℕ). t ++ l) (lines_more xs i lt) ∙ sym (append_assoc t (sheet_lines 0 (take i xs)) _)
+-- the lines up to a sheet, its own, and those after it
+pub lines_split : (xs : List Sheet) (i : ℕ) → i < length xs → sheet_lines 0 xs ≡ sheet_lines 0 (take i xs) ++ (line i (get_or xs i nothing) ++ sheet_lines (0 + length (take (i + 1) xs)) (drop (i + 1) xs))
+lines_split xs i lt =
+    let front = take (i + 1) xs in
+    let back = drop (i + 1) xs in
+    ap (sheet_lines 0) (sym (take-append-drop (i + 1) xs))
+    ∙ lines_append 0 front back
+    ∙ ap (λ (l : List ℕ). l ++ sheet_lines (0 + length front) back) (lines_more xs i lt)
+    ∙ append_assoc (sheet_lines 0 (take i xs)) (line i (get_or xs i nothing)) (sheet_lines (0 + length front) back)

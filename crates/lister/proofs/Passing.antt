@@ -1,17 +1,18 @@
 -- A card that check passes, and its lines.
-use Rattle.std.proofs.Common.{◌≡◌, ℕ, ◌<◌, true, eqb, List, ◌++◌, length, get_or, Ok, Err, Result, sym, refl, ap, ◌∙◌, arith, le_refl}
+use Rattle.std.proofs.Common.{◌≡◌, ℕ, ◌<◌, ◌≤◌, true, eqb, List, ◌++◌, length, get_or, Ok, Err, Result, sym, refl, ap, ◌∙◌, arith, le_refl}
 use Rattle.std.proofs.ByRecursion.{All-get_or}
 use Rattle.std.proofs.lemmas.Bool.Decides.{nat_tests}
 use Rattle.sealer.specs.Sealing.{Sealing, Laws, Octets}
 use Rattle.cards.specs.Faults.{Fault, and_then}
 use Rattle.cards.specs.Format.{Sheet}
-use Rattle.cards.specs.Reader.{Card, check, check_bytes, checked, filled, sheet_answer}
+use Rattle.cards.specs.Reader.{Card, check, check_bytes, checked, filled, heading, sheet_drawn}
 use Rattle.cards.proofs.Reading.{from_bytes, passed_reads}
 use Rattle.cards.proofs.Records.{Fit}
 use Rattle.reader.specs.Cards.{passes}
-use Rattle.reader.specs.Heads.{headed}
-use Rattle.lister.proofs.Lines.{nothing}
-use Rattle.lister.specs.Printed.{sheet_lines, card_line, listed, Holds}
+use Rattle.reader.specs.Heads.{a_head, headed}
+use Rattle.reader.specs.declared.SheetHead.{SheetHead}
+use Rattle.lister.proofs.Lines.{line, nothing}
+use Rattle.lister.specs.Printed.{sheet_line, sheet_lines, card_line, listed, Holds}
 
 module _ (S : Sealing) (key bs : List ℕ) (hk : length key ≡ 16) where
   goes_on : check S key 16 bs ≡ and_then (check_bytes S key bs) (λ xs. Ok (checked S key bs xs))
@@ -52,14 +53,25 @@ module _ (S : Sealing) (key bs : List ℕ) (hk : length key ≡ 16) where
         card = ap filled is;
         holds = record {
           counts = refl;
-          gives = λ i d lt. ap (λ (c : Card). sheet_answer S c i 4096) (sym same) ∙ r.gives i 4096 d lt (All-get_or Fit xs i d lt f.fit).body;
+          gives = λ i buffer d lt full.
+              let short = (All-get_or Fit xs i d lt f.fit).body in
+              let fits : length (get_or xs i d).body ≤ length buffer = omega (arith, short, full) in
+              ap (λ (c : Card). (sheet_drawn S c i buffer).answer) (sym same) ∙ (r.gives i buffer d lt fits).answer;
         };
       }
 
 -- what sheet answers of a card whose sheets are these
-pub shows : (S : Sealing) (c : Card) (i b : ℕ) (xs : List Sheet) → Holds S c xs → i < length xs → b ≡ 4096
-    → headed (sheet_answer S c i b) ≡ headed (Ok (get_or xs i nothing))
-shows S c i b xs h lt full = ap (λ k. headed (sheet_answer S c i k)) full ∙ ap headed (h.gives i nothing lt)
+shows : (S : Sealing) (c : Card) (i : ℕ) (b : List ℕ) (xs : List Sheet) → Holds S c xs → i < length xs → length b ≡ 4096
+    → headed (sheet_drawn S c i b).answer ≡ headed (Ok (heading (get_or xs i nothing)))
+shows S c i b xs h lt full = ap headed (h.gives i b nothing lt full)
 
-pub never_refused : (S : Sealing) (c : Card) (i b : ℕ) (xs : List Sheet) (f : Fault) → Holds S c xs → i < length xs → b ≡ 4096 → Err f ≡ headed (sheet_answer S c i b) → ⊥
+-- the line of what sheet answers
+pub line_is : (S : Sealing) (c : Card) (i : ℕ) (b : List ℕ) (xs : List Sheet) (h : SheetHead) → Holds S c xs → i < length xs → length b ≡ 4096 → Ok h ≡ headed (sheet_drawn S c i b).answer
+    → sheet_line i h.cell h.edition h.«length» ≡ line i (get_or xs i nothing)
+line_is S c i b xs h holds lt full e =
+    let is : Ok h ≡ headed (Ok (heading (get_or xs i nothing))) = e ∙ shows S c i b xs holds lt full in
+    let same : h ≡ a_head (get_or xs i nothing).cell (get_or xs i nothing).edition (length (get_or xs i nothing).body) = cc in
+    ap (λ (x : SheetHead). sheet_line i x.cell x.edition x.«length») same
+
+pub never_refused : (S : Sealing) (c : Card) (i : ℕ) (b : List ℕ) (xs : List Sheet) (f : Fault) → Holds S c xs → i < length xs → length b ≡ 4096 → Err f ≡ headed (sheet_drawn S c i b).answer → ⊥
 never_refused S c i b xs f h lt full e = let q = e ∙ shows S c i b xs h lt full in let z : ◌≡◌ {A = ℕ} 0 1 = cc in omega arith

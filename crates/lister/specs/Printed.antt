@@ -1,6 +1,5 @@
 -- What the listing program prints of its input, which is 16 key bytes and then a card. Assumes nothing.
-use Rattle.std.specs.Prelude.{◌≡◌, ℕ, suc, ◌+◌, ◌*◌, ◌<◌, cond, List, [], ◌∷◌, ◌++◌, length, take, drop, Ok, Err, string_bytes, codes, decimal, Result, String, nat_le, slice_index, slice_index_or}
-use Rattle.std.specs.declared.alloc.Global.{Global}
+use Rattle.std.specs.Prelude.{◌≡◌, ℕ, suc, ◌+◌, ◌*◌, ◌<◌, cond, List, [], ◌∷◌, ◌++◌, length, take, drop, Ok, Err, codes, decimal, Option, Result, nat_le, slice_index, slice_index_or}
 use Rattle.std.specs.Str.{bytes_eq}
 use Rattle.sealers.specs.Names.{sealer_of}
 use Rattle.sealer.specs.Sealing.{Sealing}
@@ -9,10 +8,12 @@ use Rattle.sealers.specs.declared.NoSuchVersion.{NoSuchVersion}
 use Rattle.sealers.specs.declared.SealerName.{SealerName}
 use Rattle.cards.specs.Faults.{Fault, fault, and_then, of_card, refused_text}
 use Rattle.cards.specs.Format.{Sheet, mark}
-use Rattle.cards.specs.Reader.{Card, check_bytes, sheet_answer, version_of}
+use Rattle.cards.specs.Reader.{Card, check_bytes, heading, sheet_drawn, version_of}
 use Rattle.lister.specs.declared.listing.Header.{Header}
 use Rattle.lister.specs.declared.listing.Unlisted.{Unlisted}
-use Rattle.lister.specs.declared.listing.Unlisted.TheVariants.{Refused, Memory}
+use Rattle.lister.specs.declared.listing.Unlisted.TheVariants.{Refused, Unwritten}
+use Rattle.std.specs.Io.KnownBytes.{Appends}
+use Rattle.streams.specs.Fronts.{AppendsFront}
 
 -- card C version V sheets N
 abbrev pub card_line : ℕ → ℕ → ℕ → List ℕ
@@ -77,13 +78,13 @@ text_of (Err f) = refused_text f ++ (10 ∷ [])
 abbrev pub listing_text : List ℕ → List ℕ
 listing_text all = text_of (input_listed all)
 
--- the text in memory; there may also be no memory for it
-abbrev pub Says : Result (String Global) Unlisted → Result (List ℕ) Fault → Type 0
-Says (Ok t) a = a ≡ Ok (string_bytes t)
-Says (Err (Refused f)) a = a ≡ Err (of_card f)
-Says (Err (Memory e)) a = Unit {0}
+-- what a call answers and has written, against a text or a fault: where writing fails, a front of the text; where there is a fault, nothing
+abbrev pub Prints : Result (Unit {0}) Unlisted → Option (List ℕ) → Option (List ℕ) → Result (List ℕ) Fault → Type 0
+Prints (Ok _) old new a = (text : List ℕ) × (a ≡ Ok text) × Appends old new text
+Prints (Err (Unwritten e)) old new a = (text : List ℕ) × (a ≡ Ok text) × AppendsFront old new text
+Prints (Err (Refused f)) old new a = (a ≡ Err (of_card f)) × (new ≡ old)
 
 -- a card whose sheets are these
 pub record Holds (S : Sealing) (c : Card) (xs : List Sheet) : Type 0 where
   pub counts : c.count ≡ length xs
-  pub gives : (i : ℕ) (d : Sheet) → i < length xs → sheet_answer S c i 4096 ≡ Ok (slice_index_or xs i d)
+  pub gives : (i : ℕ) (buffer : List ℕ) (d : Sheet) → i < length xs → length buffer ≡ 4096 → (sheet_drawn S c i buffer).answer ≡ Ok (heading (slice_index_or xs i d))

@@ -1,22 +1,23 @@
-ghost use Rattle.std.specs.Prelude.{◌≡◌, List, ◌++◌, IfOk, Ok, Some, string_bytes};
-ghost use Rattle.cards.specs.Faults.{at, told};
+ghost use Rattle.std.specs.Prelude.{◌≡◌, List, ◌++◌, ◌∷◌, [], Ok, Some, IfSome, OnOk, drop};
+ghost use Rattle.streams.specs.Fronts.{Writes, LosesFront};
+ghost use Rattle.cards.specs.Faults.{at, told, of_card, refused_text};
 ghost use Rattle.cards.specs.Format.{Sheet};
 ghost use Rattle.cards.specs.declared.CardFault.TheVariants as card;
 ghost use Rattle.cards.specs.declared.CardNo.TheVariants.{Version};
 ghost use Rattle.reader.specs.Cards.{shown};
-ghost use Rattle.lister.specs.declared.listing.Unlisted.TheVariants.{Refused, Memory};
-ghost use Rattle.lister.specs.Printed.{card_line, sheet_line, sheet_lines, listed, header_asked, card_listed, input_listed, listing_text, Says, Holds};
+ghost use Rattle.lister.specs.declared.listing.Unlisted.TheVariants.{Refused, Unwritten};
+ghost use Rattle.lister.specs.Printed.{card_line, sheet_line, sheet_lines, listed, header_asked, card_listed, input_listed, listing_text, Prints, Holds};
 
 use cards::{CardFault, CardNo, HEADER_BYTES, MARK, MOST_BODY};
 use reader::{Card, SheetHead, check, sheet};
 use sealer::{SCRATCH_BYTES, SealFault, Sealer};
 use sealers::{NoSuchVersion, SealerName};
 use spoc_sealer::{BenchSealer, Spoc64Sealer, Spoc128Sealer};
-use std::alloc::{AllocError, Global};
-use std::fmt;
-use std::fmt::Write;
+use std::io::{Read, Write};
+use std::{fmt, io};
+use streams::{read_front, write_line};
 
-// The most bytes of an input: 16 of the key, and a card of 65,536.
+/// The most bytes of an input: 16 of the key, and a card of 65,536.
 pub const MOST_INPUT: usize = 65552;
 
 // Version and card number of a card.
@@ -48,10 +49,10 @@ impl TryFrom<&[u8]> for Header {
 }
 
 // Why an input is not listed.
-#[derive(Clone, Copy)]
+#[derive(Drop)]
 enum Unlisted {
     Refused(CardFault),
-    Memory(AllocError),
+    Unwritten(io::Error),
 }
 
 impl From<CardFault> for Unlisted {
@@ -70,11 +71,11 @@ impl From<NoSuchVersion> for Unlisted {
     }
 }
 
-impl From<AllocError> for Unlisted {
-    ghost from_gives = { λ e r. r ≡ Memory e };
+impl From<io::Error> for Unlisted {
+    ghost from_gives = { λ e r. r ≡ Unwritten e };
 
-    fn from(e: AllocError) -> Unlisted {
-        Unlisted::Memory(e)
+    fn from(e: io::Error) -> Unlisted {
+        Unlisted::Unwritten(e)
     }
 }
 
@@ -120,28 +121,40 @@ impl fmt::Display for SheetLine {
     }
 }
 
-// A card's lines, with those of its sheets after the text. Sheets are asked for by their numbers.
-#[tactic(auto, using(crate::proofs::Lines::text_none, crate::proofs::Lines::text_more, crate::proofs::Passing::shows))]
-fn list_sheets<C: Sealer>(card: &Card<'_>, mut text: String) -> Result<String, Unlisted>
-    ensures { (xs : List Sheet) → Holds C.meaning (shown card.now) xs → Says result (Ok (string_bytes text ++ sheet_lines 0 xs)) }
+// The line of a refusal.
+#[derive(Clone, Copy)]
+struct RefusedLine(CardFault);
+
+impl fmt::Display for RefusedLine {
+    ghost output = { λ l. Some (refused_text (of_card l.0) ++ 10 ∷ []) };
+
+    fn fmt<W: fmt::Write>(&self, f: &mut fmt::Formatter<W>) -> fmt::Result {
+        writeln!(f, "{}", self.0)
+    }
+}
+
+// Writes the lines of a card's sheets, which are asked for by their numbers.
+fn list_sheets<C: Sealer, W: Write>(card: &Card<'_>, out: &mut W) -> Result<(), Unlisted>
+    ensures { (xs : List Sheet) → Holds C.meaning (shown card.now) xs →
+        Prints result (W.contents out.old) (W.contents out.new) (Ok (sheet_lines 0 xs)) }
 {
     let mut buffer = [0; MOST_BODY];
     for i in 0..card.count() {
         let head = sheet::<C>(card, i, &mut buffer)?;
-        let line = SheetLine { i, head };
-        write!(text, "{line}")?;
+        write_line(out, SheetLine { i, head })?;
     }
-    Ok(text)
+    Ok(())
 }
 
-// What is printed of a card under a sealer.
-fn list_under<C: Sealer>(
-    heap: Global,
+// Writes what is printed of a card under a sealer.
+fn list_under<C: Sealer, W: Write>(
     key: &[u8; 16],
     number: u64,
     bytes: &[u8],
-) -> Result<String, Unlisted>
-    ensures { Says result (listed C.meaning key.now number bytes.now) }
+    out: &mut W,
+) -> Result<(), Unlisted>
+    ensures { Prints result (W.contents out.old) (W.contents out.new)
+        (listed C.meaning key.now number bytes.now) }
 {
     let mut scratch = [0; SCRATCH_BYTES];
     let mut card = Card::empty();
@@ -151,24 +164,25 @@ fn list_under<C: Sealer>(
         version: C::VERSION,
         sheets: card.count(),
     };
-    list_sheets::<C>(&card, line.to_string(heap)?)
+    write_line(out, line)?;
+    list_sheets::<C, W>(&card, out)
 }
 
-// What is printed of a card: its version picks the sealer.
-fn list_card(heap: Global, key: &[u8; 16], bytes: &[u8]) -> Result<String, Unlisted>
-    ensures { Says result (card_listed key.now bytes.now) }
+// Writes what is printed of a card: its version picks the sealer.
+fn list_card<W: Write>(key: &[u8; 16], bytes: &[u8], out: &mut W) -> Result<(), Unlisted>
+    ensures { Prints result (W.contents out.old) (W.contents out.new) (card_listed key.now bytes.now) }
 {
     let Header { version, number } = Header::try_from(bytes)?;
     match SealerName::try_from(version)? {
-        SealerName::Spoc64 => list_under::<Spoc64Sealer>(heap, key, number, bytes),
-        SealerName::Spoc128 => list_under::<Spoc128Sealer>(heap, key, number, bytes),
-        SealerName::Bench => list_under::<BenchSealer>(heap, key, number, bytes),
+        SealerName::Spoc64 => list_under::<Spoc64Sealer, W>(key, number, bytes, out),
+        SealerName::Spoc128 => list_under::<Spoc128Sealer, W>(key, number, bytes, out),
+        SealerName::Bench => list_under::<BenchSealer, W>(key, number, bytes, out),
     }
 }
 
-// What is printed of an input.
-fn list_input(heap: Global, input: &[u8]) -> Result<String, Unlisted>
-    ensures { Says result (input_listed input.now) }
+// Writes what is printed of an input that is not refused.
+fn list_input<W: Write>(input: &[u8], out: &mut W) -> Result<(), Unlisted>
+    ensures { Prints result (W.contents out.old) (W.contents out.new) (input_listed input.now) }
 {
     let (key, bytes) = input
         .split_first_chunk::<16>()
@@ -176,15 +190,30 @@ fn list_input(heap: Global, input: &[u8]) -> Result<String, Unlisted>
     if input.len() > MOST_INPUT {
         return Err(Unlisted::Refused(CardFault::of_cipher(SealFault::TooLong)));
     }
-    list_card(heap, key, bytes)
+    list_card(key, bytes, out)
 }
 
-// What the program prints of its input: the card's lines, or only why it is refused.
-pub fn list(heap: Global, input: &[u8]) -> Result<String, AllocError>
-    ensures { IfOk result (λ t. string_bytes t ≡ listing_text input.now) }
+/// Writes what is printed of an input: the card's lines, or only why it is refused. A failed write leaves a front of that text.
+pub fn list<W: Write>(input: &[u8], out: &mut W) -> io::Result<()>
+    ensures { Writes result (W.contents out.old) (W.contents out.new) (listing_text input.now) }
 {
-    list_input(heap, input).or_else(|unlisted| match unlisted {
-        Unlisted::Refused(fault) => format!(in heap; "{fault}\n"),
-        Unlisted::Memory(e) => Err(e),
-    })
+    match list_input(input, out) {
+        Ok(()) => Ok(()),
+        Err(Unlisted::Refused(fault)) => write_line(out, RefusedLine(fault)),
+        Err(Unlisted::Unwritten(e)) => Err(e),
+    }
+}
+
+/// The whole program: reads an input and writes its listing. It reads one byte more than an input may have, and no further. A failed
+/// read leaves nothing written, a failed write a front of the listing.
+pub fn run<R: Read, W: Write>(source: &mut R, out: &mut W) -> io::Result<()>
+    ensures written { IfSome (R.remaining source.old) (λ input.
+        Writes result (W.contents out.old) (W.contents out.new) (listing_text input)) }
+    ensures read { OnOk result (IfSome (R.remaining source.old) (λ input.
+        R.remaining source.new ≡ Some (drop 65553 input))) }
+    ensures lost { LosesFront 65553 (R.remaining source.old) (R.remaining source.new) }
+{
+    let mut input = [0; MOST_INPUT + 1];
+    let length = read_front(source, &mut input)?;
+    list(&input[..length], out)
 }

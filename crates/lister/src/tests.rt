@@ -1,4 +1,4 @@
-use crate::listing::{MOST_INPUT, list};
+use crate::listing::{MOST_INPUT, run};
 use cards::CardFault;
 use sealer::Sealer;
 use spoc_sealer::{BenchSealer, Spoc64Sealer, Spoc128Sealer};
@@ -20,9 +20,17 @@ fn input_of(heap: Global, bytes: &[u8]) -> Result<Vec<u8>, Fail> {
     Ok(input)
 }
 
+// What the program writes of an input.
+fn listed(heap: Global, input: &[u8]) -> Result<Vec<u8>, Fail> {
+    let mut source = input;
+    let mut out = Vec::new(heap);
+    run(&mut source, &mut out)?;
+    Ok(out)
+}
+
 fn expect(rt: &impl Abort, heap: Global, bytes: &[u8], text: &str) -> Result<(), Fail> {
     let input = input_of(heap, bytes)?;
-    assert_eq!(rt; list(heap, input.as_slice())?.as_str(), text);
+    assert_eq!(rt; listed(heap, input.as_slice())?.as_slice(), text.as_bytes());
     Ok(())
 }
 
@@ -56,7 +64,7 @@ fn lengths_of_the_input(rt: HostRuntime) -> Result<(), Fail> {
         (most.as_slice(), "refused 11 layer 3 record 0 place 0\n"),
     ];
     for (input, text) in rows {
-        assert_eq!(rt; list(heap, input)?.as_str(), text);
+        assert_eq!(rt; listed(heap, input)?.as_slice(), text.as_bytes());
     }
     Ok(())
 }
@@ -149,11 +157,14 @@ fn one_sheet_too_many(rt: HostRuntime) -> Result<(), Fail> {
     let heap = rt.alloc();
     let mut medium = [0; 8734];
     let empty: (u32, u16, &[u8]) = (0, 0, &[]);
-    assert_eq!(rt; write_card::<BenchSealer>(&mut medium, &[empty; 512])?, 8734);
-    let listed = list(heap, input_of(heap, &medium)?.as_slice())?;
+    assert_eq!(rt;
+        write_card::<BenchSealer>(&mut medium, &[empty; 512])?,
+        8734
+    );
+    let lines = listed(heap, input_of(heap, &medium)?.as_slice())?;
     assert!(rt;
-        listed.as_str().starts_with(
-            "card 7 version 9 sheets 512\nsheet 0 cell 0 edition 0 length 0\n",
+        lines.as_slice().starts_with(
+            b"card 7 version 9 sheets 512\nsheet 0 cell 0 edition 0 length 0\n",
         )
     );
     medium[8717] = 1;
@@ -170,4 +181,14 @@ fn one_sheet_too_many(rt: HostRuntime) -> Result<(), Fail> {
         &medium,
         "refused 13 layer 2 record 512 place 8717\n",
     )
+}
+
+#[test]
+fn writer_that_is_full(rt: HostRuntime) -> Result<(), Fail> {
+    let input = input_of(rt.alloc(), CARD)?;
+    let mut source = input.as_slice();
+    let mut room = [0; 10];
+    assert!(rt; run(&mut source, &mut &mut room[..]).is_err());
+    assert_eq!(rt; &room[..], b"card 28936".as_slice());
+    Ok(())
 }

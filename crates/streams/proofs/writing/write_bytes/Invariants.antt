@@ -1,0 +1,8 @@
+use Rattle.std.proofs.Common.{◌≡◌, ℕ, List, ◌++◌}
+use Rattle.std.specs.Io.KnownBytes.{Appends}
+use Rattle.streams.proofs.writing.write_bytes.Given as goal
+
+-- what is gone from the rest was written
+abbrev pub invariant-loop : goal.invariant-loop
+invariant-loop g l =
+    (done : List ℕ) × (l.initial.rest ≡ done ++ l.rest) × Appends (g.W.Write.contents l.initial.out) (g.W.Write.contents l.out) done
