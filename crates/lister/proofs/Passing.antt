@@ -12,7 +12,10 @@ use Rattle.reader.specs.Cards.{passes}
 use Rattle.reader.specs.Heads.{a_head, headed}
 use Rattle.reader.specs.declared.SheetHead.{SheetHead}
 use Rattle.lister.proofs.Lines.{line, nothing}
-use Rattle.lister.specs.Printed.{sheet_line, sheet_lines, card_line, listed, Holds}
+use Rattle.sealers.specs.Names.{cipher_of, sealer_of}
+use Rattle.sealers.specs.declared.SealerName.{SealerName}
+use Rattle.lister.specs.declared.listing.Header.{Header}
+use Rattle.lister.specs.Printed.{under, by_version, header_asked, card_listed, sheet_line, sheet_lines, card_line, listed, Holds}
 
 module _ (S : Sealing) (key bs : List ℕ) (hk : length key ≡ 16) where
   goes_on : check S key 16 bs ≡ and_then (check_bytes S key bs) (λ xs. Ok (checked S key bs xs))
@@ -75,3 +78,9 @@ line_is S c i b xs h holds lt full e =
 
 pub never_refused : (S : Sealing) (c : Card) (i : ℕ) (b : List ℕ) (xs : List Sheet) (f : Fault) → Holds S c xs → i < length xs → length b ≡ 4096 → Err f ≡ headed (sheet_drawn S c i b).answer → ⊥
 never_refused S c i b xs f h lt full e = let q = e ∙ shows S c i b xs h lt full in let z : ◌≡◌ {A = ℕ} 0 1 = cc in omega arith
+
+-- a card under the sealer that its version names
+pub listed_under : (key bs : List ℕ) (h : Header) (s s' : SealerName) → Ok h ≡ header_asked bs → Ok s ≡ sealer_of h.version → s ≡ s' → listed (cipher_of s') key h.number bs ≡ card_listed key bs
+listed_under key bs h s s' eh es e =
+    ap (λ z. under z key h.number bs) (ap Ok (sym e) ∙ es)
+    ∙ ap (λ z. and_then z (by_version key bs)) eh
