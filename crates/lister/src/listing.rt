@@ -159,7 +159,7 @@ fn list_card(heap: Global, key: &[u8; 16], bytes: &[u8]) -> Result<String, Unlis
     ensures { Says result (card_listed key.now bytes.now) }
 {
     let Header { version, number } = Header::try_from(bytes)?;
-    match SuiteName::try_from(u64::from(version))? {
+    match SuiteName::try_from(version)? {
         SuiteName::Spoc64 => list_under::<Spoc64Sealer>(heap, key, number, bytes),
         SuiteName::Spoc128 => list_under::<Spoc128Sealer>(heap, key, number, bytes),
         SuiteName::Bench => list_under::<BenchSealer>(heap, key, number, bytes),
