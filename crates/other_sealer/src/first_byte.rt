@@ -6,7 +6,6 @@ use sealer::{SCRATCH_BYTES, SealFault, Sealer, ask_lengths};
 /// The smallest sealer that refuses another key: a ciphertext is its message, and a tag is the key's first byte.
 ///
 /// It keeps the sealer's rule and no secret, and is there for tests: whoever reads a card of it can forge one.
-#[derive(Clone, Copy)]
 pub struct FirstByte;
 
 impl Sealer for FirstByte {
