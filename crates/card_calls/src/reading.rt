@@ -174,11 +174,7 @@ impl<'a> Given<'a> {
     }
 
     // Checks the card, and reads sheet i.
-    fn read<C: Sealer>(
-        &self,
-        i: usize,
-        buffer: &mut [u8],
-    ) -> Result<SheetHead, CardFault>
+    fn read<C: Sealer>(&self, i: usize, buffer: &mut [u8]) -> Result<SheetHead, CardFault>
         ensures answer { told result ≡ read_answer C.meaning (check_of C.meaning self.now.key.now 16 self.now.bytes.now) i buffer.old }
         ensures buffer { buffer.new ≡ read_buffer C.meaning (check_of C.meaning self.now.key.now 16 self.now.bytes.now) i buffer.old }
     {
@@ -197,11 +193,7 @@ impl<'a> Given<'a> {
 
     // Checks the card with a scratch of this length, and says what was answered.
     #[tactic(auto, unfolding(crate::specs::Readings::check_said))]
-    fn answer_check<C: Sealer>(
-        &self,
-        heap: Global,
-        room: usize,
-    ) -> Result<String, AllocError>
+    fn answer_check<C: Sealer>(&self, heap: Global, room: usize) -> Result<String, AllocError>
         ensures { IfOk result (λ t. string_bytes t ≡ check_said C.meaning self.now.key.now self.now.bytes.now room) }
     {
         let mut scratch = vec![in heap; FILLER; room]?;
@@ -231,11 +223,7 @@ impl<'a> Given<'a> {
 
     // Finds a cell, and says what was answered.
     #[tactic(auto, unfolding(crate::specs::Readings::find_said))]
-    fn answer_find<C: Sealer>(
-        &self,
-        heap: Global,
-        cell: u32,
-    ) -> Result<String, AllocError>
+    fn answer_find<C: Sealer>(&self, heap: Global, cell: u32) -> Result<String, AllocError>
         ensures { IfOk result (λ t. string_bytes t ≡ find_said C.meaning self.now.key.now cell self.now.bytes.now) }
     {
         Finding(self.find::<C>(cell)).to_string(heap)
@@ -289,11 +277,7 @@ fn call_find<C: Sealer>(heap: Global, mut words: Words) -> Result<String, Unread
 }
 
 // Makes a call of the reader over a sealer, from the words after the version.
-fn call_over<C: Sealer>(
-    heap: Global,
-    call: ReaderCall,
-    words: Words,
-) -> Result<String, Unread>
+fn call_over<C: Sealer>(heap: Global, call: ReaderCall, words: Words) -> Result<String, Unread>
     ensures { Holds string_bytes result (reader_over C.meaning call (left words.entry)) }
 {
     match call {

@@ -124,11 +124,7 @@ impl Draft {
     }
 
     // Starts a card on the medium, makes its calls, and says what was answered.
-    fn write_on<C: Sealer>(
-        &self,
-        heap: Global,
-        medium: &mut [u8],
-    ) -> Result<String, AllocError>
+    fn write_on<C: Sealer>(&self, heap: Global, medium: &mut [u8]) -> Result<String, AllocError>
         ensures { IfOk result (λ t. ◌≡◌ {A = Written} record { lines = string_bytes t; medium = medium.new } (write_on C.meaning (draft_in self.now) medium.old)) }
     {
         let calls = calls_of(heap, self.steps.as_slice())?;
@@ -142,10 +138,7 @@ impl Draft {
     }
 
     // Writes the card on a new medium, under a sealer.
-    fn answer_over<C: Sealer>(
-        &self,
-        heap: Global,
-    ) -> Result<String, AllocError>
+    fn answer_over<C: Sealer>(&self, heap: Global) -> Result<String, AllocError>
         ensures { IfOk result (λ t. string_bytes t ≡ draft_over C.meaning (draft_in self.now)) }
     {
         let mut medium = vec![in heap; self.fill; self.size]?;

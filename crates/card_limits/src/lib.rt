@@ -49,33 +49,20 @@ mod tests {
     }
 
     // Appends a body of one byte to a new card.
-    fn append_on<C: Sealer>(
-        medium: &mut [u8],
-    ) -> Result<usize, CardFault> {
+    fn append_on<C: Sealer>(medium: &mut [u8]) -> Result<usize, CardFault> {
         let mut writer = Writer::<C>::start(KEY, NUMBER, medium)?;
         writer.append(medium, 7, 3, b"A")
     }
 
-    fn close<C: Sealer>(
-        writer: Writer<C>,
-        medium: &mut [u8],
-    ) -> Result<usize, CardFault> {
+    fn close<C: Sealer>(writer: Writer<C>, medium: &mut [u8]) -> Result<usize, CardFault> {
         Ok(writer.close(medium)?)
     }
 
     // The fewest bytes of a medium on which a card starts, and those on which it then takes a body of one byte.
-    fn shortest<C: Sealer>(
-        rt: &impl Abort,
-        start: usize,
-        append: usize,
-    ) -> Result<(), Fail>
+    fn shortest<C: Sealer>(rt: &impl Abort, start: usize, append: usize) -> Result<(), Fail>
         requires { (0 < start) × (start ≤ 64) × (0 < append) × (append ≤ 64) }
     {
-        refused(
-            rt,
-            start_on::<C>(&mut [7; 64][..start - 1]),
-            (9, 3, 0, 0),
-        )?;
+        refused(rt, start_on::<C>(&mut [7; 64][..start - 1]), (9, 3, 0, 0))?;
         assert_eq!(rt; start_on::<C>(&mut [7; 64][..start]), Ok(()));
         refused(
             rt,
@@ -226,15 +213,27 @@ mod tests {
     fn the_order_of_questions_of_sheet(rt: HostRuntime) -> Result<(), Fail> {
         let mut card = Card::empty();
         let mut short = [7; 1];
-        refused(&rt, sheet::<BenchSealer>(&card, 0, &mut short), (12, 3, 0, 0))?;
+        refused(
+            &rt,
+            sheet::<BenchSealer>(&card, 0, &mut short),
+            (12, 3, 0, 0),
+        )?;
         reader::check::<BenchSealer>(KEY, ONE, &mut [7; 16], &mut card)?;
         refused(
             &rt,
             sheet::<Spoc64Sealer>(&card, 9, &mut short),
             (12, 3, 9, 0),
         )?;
-        refused(&rt, sheet::<BenchSealer>(&card, 1, &mut short), (16, 3, 1, 0))?;
-        refused(&rt, sheet::<BenchSealer>(&card, 0, &mut short), (4, 1, 0, 22))?;
+        refused(
+            &rt,
+            sheet::<BenchSealer>(&card, 1, &mut short),
+            (16, 3, 1, 0),
+        )?;
+        refused(
+            &rt,
+            sheet::<BenchSealer>(&card, 0, &mut short),
+            (4, 1, 0, 22),
+        )?;
         assert_eq!(rt; short, [7; 1]);
         let mut buffer = [7; 4];
         let head = sheet::<BenchSealer>(&card, 0, &mut buffer)?;

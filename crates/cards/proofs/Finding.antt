@@ -47,6 +47,6 @@ drawn_fields S c i b s x =
 pub find_tells : (S : Sealing) → FindTells S
 find_tells S key bs sheets a cell o d x =
     let fields : (k : ℕ) → k < length sheets → ((get_or sheets k d).cell ≡ cell_at a.card k) × ((get_or sheets k d).edition ≡ edition_at a.card k) = λ k lt.
-        let b = (get_or sheets k d).body in
-        drawn_fields S a.card k b (get_or sheets k d) (a.gives k b d lt (le_refl (length b))) in
+    let b = (get_or sheets k d).body in
+    drawn_fields S a.card k b (get_or sheets k d) (a.gives k b d lt (le_refl (length b))) in
     found_same (length sheets) (cell_at a.card) (λ k. (get_or sheets k d).cell) (edition_at a.card) (λ k. (get_or sheets k d).edition) cell (λ k lt. (fields k lt).0) (λ k lt. (fields k lt).1) o (subst (λ n. Found n (cell_at a.card) (edition_at a.card) cell o) a.counts x)

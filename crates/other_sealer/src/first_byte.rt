@@ -27,7 +27,16 @@ impl Sealer for FirstByte {
         out: &mut [u8],
         tag: &mut [u8],
     ) -> Result<(), SealFault> {
-        let (key, _) = ask_lengths(key, nonce, data, message, message.len(), out, tag, Self::WIDTH)?;
+        let (key, _) = ask_lengths(
+            key,
+            nonce,
+            data,
+            message,
+            message.len(),
+            out,
+            tag,
+            Self::WIDTH,
+        )?;
         out[..message.len()].copy_from_slice(message);
         tag[0] = key[0];
         Ok(())
@@ -41,7 +50,16 @@ impl Sealer for FirstByte {
         out: &mut [u8],
         tag: &[u8],
     ) -> Result<(), SealFault> {
-        let (key, _) = ask_lengths(key, nonce, data, ciphertext, ciphertext.len(), out, tag, Self::WIDTH)?;
+        let (key, _) = ask_lengths(
+            key,
+            nonce,
+            data,
+            ciphertext,
+            ciphertext.len(),
+            out,
+            tag,
+            Self::WIDTH,
+        )?;
         if tag[0] != key[0] {
             out[..ciphertext.len()].fill(0);
             return Err(SealFault::TagMismatch);
@@ -58,7 +76,16 @@ impl Sealer for FirstByte {
         scratch: &mut [u8],
         tag: &[u8],
     ) -> Result<(), SealFault> {
-        let (key, _) = ask_lengths(key, nonce, data, ciphertext, SCRATCH_BYTES, scratch, tag, Self::WIDTH)?;
+        let (key, _) = ask_lengths(
+            key,
+            nonce,
+            data,
+            ciphertext,
+            SCRATCH_BYTES,
+            scratch,
+            tag,
+            Self::WIDTH,
+        )?;
         scratch.first_chunk_mut::<SCRATCH_BYTES>().unwrap().fill(0);
         if tag[0] != key[0] {
             return Err(SealFault::TagMismatch);
