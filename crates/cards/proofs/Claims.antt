@@ -1,5 +1,5 @@
 -- The claims on cards.
-use Rattle.std.proofs.Common.{◌≡◌, ℕ, suc, ◌+◌, ◌≤◌, List, [], ◌∷◌, ◌++◌, length, take, Ok, Result, sym, ap, subst, le_refl, arith}
+use Rattle.std.proofs.Common.{◌≡◌, ℕ, suc, ◌+◌, ◌≤◌, List, [], ◌∷◌, ◌++◌, length, take, Ok, Option, Result, sym, ap, subst, le_refl, arith, ◌∙◌}
 use Rattle.std.specs.List.{AllByRecursion}
 use Rattle.sealer.specs.Sealing.{Sealing, Laws}
 use Rattle.cards.specs.Format.{Sheet, card}
@@ -11,7 +11,7 @@ use Rattle.cards.specs.Questions.{PassQuestions}
 use Rattle.cards.specs.Reader.{check_bytes}
 use Rattle.cards.proofs.Records.{Fit}
 use Rattle.cards.proofs.Large.{checks_as_opened}
-use Rattle.cards.proofs.Asking.{questions_passed}
+use Rattle.cards.proofs.Asking.{questions_passed, passes_questions}
 use Rattle.cards.proofs.Reading.{card_reads, reads_card, checked_back, passed_back, from_bytes, passed_reads, reads_once}
 use Rattle.cards.proofs.Sizes.{sizes_told}
 use Rattle.cards.proofs.Writing.{Kept, started_kept, start_passed}
@@ -27,6 +27,10 @@ passing n (s ∷ xs) w p few =
     let on = passing (suc n) xs w.1 p.1 q.0 in
     ((record { cell = w.0.cell; edition = w.0.edition; body = q.1 }, on.0), omega (arith, on.1))
 
+pass_questions : (n : ℕ) (xs : List Sheet) → AllByRecursion Fit xs → n + length xs ≤ 512 → PassQuestions n xs
+pass_questions n [] f few = tt
+pass_questions n (s ∷ xs) f few = (passes_questions n (length s.body) (omega arith) f.0.body, pass_questions (suc n) xs f.1 (omega arith))
+
 well : (xs : List Sheet) → AllByRecursion Fit xs → AllByRecursion Well xs
 well [] f = tt
 well (s ∷ xs) f = (record { cell = f.0.cell; edition = f.0.edition }, well xs f.1)
@@ -41,9 +45,9 @@ module _ (S : Sealing) (L : Laws S) where
         let x = reads_card S L key bytes sheets o a in
         let hk = (checked_back S key bytes 16 a.card (a.passes 16 (le_refl 16))).0 in
         (x.number, x.small, subst (Gives S key x.number sheets) (sym x.is) (gives_card key x.number sheets hk well x.fit x.few))),
-    (λ g.
-        let x = writes_card S L key g.0 sheets bytes bytes well (g.2 bytes (le_refl (length bytes))) in
-        subst (λ (z : List ℕ). Reads S key z sheets) (sym x.1) (card_reads S L key g.0 sheets x.0 x.2 x.3)),
+    (λ number medium written.
+        let x = writes_card S L key number sheets medium bytes well written in
+        subst (λ (z : List ℕ). Reads S key z sheets) (sym x.1) (card_reads S L key number sheets x.0 x.2 x.3)),
   )
 
   pub all_writable : AllWritable S
@@ -60,6 +64,8 @@ module _ (S : Sealing) (L : Laws S) where
       let f = from_bytes S L key bytes y.0 o y.1 in
       record {
         sheets = y.0;
+        well = well y.0 f.fit;
+        pass = pass_questions 0 y.0 f.fit (omega (arith, f.few));
         reads = passed_reads S L key bytes y.0 x.0 o y.1;
         number = f.number;
         small = f.small;
@@ -90,14 +96,15 @@ module _ (S : Sealing) (L : Laws S) where
       }
 
   -- calls that were made from an accepted start, with what they answered and left
-  pub is_run : (key : List ℕ) (number : ℕ) (before : List ℕ) (w : Plain) → start S key number before ≡ Ok w → (calls : List Call) (answers : List (Result ℕ Fault)) (medium : List ℕ) → AllByRecursion WellCall calls → answers ≡ (run S w calls).answers → medium ≡ (run S w calls).medium → IsRun S key w calls answers medium
-  is_run key number before w starts calls answers medium well ea em =
+  pub is_run : (key : List ℕ) (number : ℕ) (before : List ℕ) (w : Plain) → start S key number before ≡ Ok w → (calls : List Call) (answers : List (Result ℕ Fault)) (medium : List ℕ) (closed : Option ℕ) → AllByRecursion WellCall calls → answers ≡ (run S w calls).answers → medium ≡ (run S w calls).medium → closed ≡ (run S w calls).closed → IsRun S key w calls answers medium closed
+  is_run key number before w starts calls answers medium closed well ea em ec =
       let x = runs_hold key number before w starts calls in
       record {
         answers_are = ea;
         medium_is = em;
+        closed_is = ec;
         fresh = x.fresh;
         reads = λ n e.
             subst (λ (m : List ℕ). Reads S key (take n m) (accepted calls answers)) (sym em)
-            (subst (λ (as' : List (Result ℕ Fault)). Reads S key (take n (run S w calls).medium) (accepted calls as')) (sym ea) (x.reads well n e));
+            (subst (λ (as' : List (Result ℕ Fault)). Reads S key (take n (run S w calls).medium) (accepted calls as')) (sym ea) (x.reads well n (sym ec ∙ e)));
       }

@@ -49,12 +49,12 @@ pub record Writes (S : Sealing) (key : List ℕ) (number : ℕ) (sheets : List S
 abbrev pub Gives : Sealing → List ℕ → ℕ → List Sheet → List ℕ → Type 0
 Gives S key number sheets bytes = (medium : List ℕ) → length bytes ≤ length medium → Writes S key number sheets medium bytes
 
--- Bytes read as a list of sheets under a key exactly when writing that list, with that key and some card number, on a long enough medium gives those bytes, whatever it held.
+-- Bytes read as a list of sheets under a key exactly when writing that list, with that key and some card number, on a long enough medium gives those bytes, whatever it held: where they read so, on every such medium; and where some one medium gives them, they read so.
 abbrev pub ReadsAsWritten : Sealing → Type 0
 ReadsAsWritten S =
     (key bytes : List ℕ) (sheets : List Sheet) → Octets bytes → AllByRecursion Well sheets →
     (Reads S key bytes sheets → (number : ℕ) × (number < 2 ^ 64) × Gives S key number sheets bytes)
-    × ((number : ℕ) × (number < 2 ^ 64) × Gives S key number sheets bytes → Reads S key bytes sheets)
+    × ((number : ℕ) (medium : List ℕ) → Writes S key number sheets medium bytes → Reads S key bytes sheets)
 
 -- With any 16 key bytes and any card number, every list whose sheets pass append's questions can be written, and then reads as that list; the card is bytes if the bodies are.
 abbrev pub AllWritable : Sealing → Type 0
@@ -76,12 +76,13 @@ pub record RunHolds (S : Sealing) (key : List ℕ) (w : Plain) (calls : List Cal
   pub fresh : Distinct (run S w calls).nonces
   pub reads : AllByRecursion WellCall calls → (n : ℕ) → (run S w calls).closed ≡ Some n → Reads S key (take n (run S w calls).medium) (accepted calls (run S w calls).answers)
 
--- The calls that were made from an accepted start, what they answered and the medium that they left are a run: answers and medium are the plain writer's, no nonce is sealed under twice, and a closed card reads as the accepted sheets, in order.
-pub record IsRun (S : Sealing) (key : List ℕ) (w : Plain) (calls : List Call) (answers : List (Result ℕ Fault)) (medium : List ℕ) : Type 0 where
+-- The calls that were made from an accepted start, what they answered, the medium that they left and the length of the card if it was closed are a run: answers and medium are the plain writer's, no nonce is sealed under twice, and a closed card reads as the accepted sheets, in order.
+pub record IsRun (S : Sealing) (key : List ℕ) (w : Plain) (calls : List Call) (answers : List (Result ℕ Fault)) (medium : List ℕ) (closed : Option ℕ) : Type 0 where
   pub answers_are : answers ≡ (run S w calls).answers
   pub medium_is : medium ≡ (run S w calls).medium
+  pub closed_is : closed ≡ (run S w calls).closed
   pub fresh : Distinct (run S w calls).nonces
-  pub reads : (n : ℕ) → (run S w calls).closed ≡ Some n → Reads S key (take n medium) (accepted calls answers)
+  pub reads : (n : ℕ) → closed ≡ Some n → Reads S key (take n medium) (accepted calls answers)
 
 abbrev pub RunsHold : Sealing → Type 0
 RunsHold S =
@@ -96,6 +97,8 @@ FindTells S =
 -- Bytes that check passes read as some list of sheets, and writing that list gives these bytes.
 pub record WasWritten (S : Sealing) (key bytes : List ℕ) : Type 0 where
   pub sheets : List Sheet
+  pub well : AllByRecursion Well sheets
+  pub pass : PassQuestions 0 sheets
   pub reads : Reads S key bytes sheets
   pub number : ℕ
   pub small : number < 2 ^ 64

@@ -7,6 +7,7 @@ use Rattle.sealer.specs.Sealing.{Sealing}
 use Rattle.cards.specs.Faults.{Fault, fault, and_then}
 use Rattle.cards.specs.Format.{mark, nonce, Sheet, a_sheet}
 use Rattle.cards.specs.Questions.{sheet_questions, goes_on, at_field}
+use Rattle.cards.specs.declared.fault.RecordNo.TheVariants.{End}
 
 -- the fields of the record at the front of the rest of a card
 abbrev pub kind_of : List ℕ → ℕ
@@ -49,7 +50,7 @@ abbrev pub parse_end : ℕ → ℕ → ℕ → List ℕ → Result Record Fault
 parse_end r n p rest =
     cond (cell_of rest == n && (edition_of rest == 0 && length_of rest == 0))
     (parse_parts r n p rest (last (tag_of r rest)))
-    (Err (fault 14 2 n (p + 1)))
+    (Err (at_field n p End))
 
 -- record n, which begins at place p, under a tag of r bytes
 abbrev pub parse : ℕ → ℕ → ℕ → List ℕ → Result Record Fault

@@ -56,7 +56,8 @@ impl RecordNo {
         RecordFault::Own(At::new(self, record, place))
     }
 
-    /// Where in a record the field begins that it is about: 7 for the length, 1 for the cell of an end record, 0 for all else.
+    /// Where in a record the field begins that it is about: 7 for the length, 1 for the cell of an end record, 0 where the
+    /// record itself is meant (of `Cut`, its head; that body and tag are cut is told 9 on).
     pub fn field(&self) -> usize
         ensures field { result ≡ field_place self.now }
         ensures within { result ≤ 7 }

@@ -5,6 +5,7 @@ use Rattle.cards.specs.Faults.{Fault, fault, and_then, of_record}
 use Rattle.cards.specs.Questions.{sheet_questions, goes_on, at_field}
 use Rattle.cards.specs.Reader.{Record, sheet, last, parse, opened, head_of, cell_of, edition_of, length_of, unseal, body_or_zeros}
 use Rattle.cards.specs.declared.RecordFault.{RecordFault}
+use Rattle.cards.specs.declared.RecordNo.TheVariants as no
 use Rattle.cards.specs.declared.Kind.{Kind}
 use Rattle.cards.specs.declared.Kind.TheVariants.{Sheet, End}
 use Rattle.reader.specs.declared.rest.Record as code
@@ -32,7 +33,7 @@ said (Err f) = Err (of_record f)
 -- the questions on the head of record n at place p, of each kind
 abbrev pub asked : Kind → ℕ → ℕ → List ℕ → Result (Unit {0}) Fault
 asked Sheet n p rest = goes_on (sheet_questions n (length_of rest)) (at_field n p) (Ok tt)
-asked End n p rest = cond (cell_of rest == n && (edition_of rest == 0 && length_of rest == 0)) (Ok tt) (Err (fault 14 2 n (p + 1)))
+asked End n p rest = cond (cell_of rest == n && (edition_of rest == 0 && length_of rest == 0)) (Ok tt) (Err (at_field n p no.End))
 
 -- the answer to opening record n, of a body of b bytes, into a buffer of o bytes: is it long enough? does the tag agree?
 abbrev pub open_answer : Option (List ℕ) → ℕ → ℕ → ℕ → ℕ → Result (Unit {0}) Fault

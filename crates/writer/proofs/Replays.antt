@@ -1,5 +1,5 @@
 -- One call after another of a run.
-use Rattle.std.proofs.Common.{◌≡◌, ℕ, ◌+◌, ◌<◌, ◌≤◌, min, List, [], ◌∷◌, ◌++◌, map, length, get_or, take, drop, set, Ok, Err, Result, sym, ap, ◌∙◌, subst, ⊎_elim, take-take, length-take-le, arith, Bor}
+use Rattle.std.proofs.Common.{◌≡◌, ℕ, ◌+◌, ◌<◌, ◌≤◌, min, List, [], ◌∷◌, ◌++◌, map, length, get_or, take, drop, set, Ok, Err, Option, Result, sym, ap, ◌∙◌, subst, ⊎_elim, take-take, length-take-le, arith, Bor}
 use Rattle.std.proofs.str.Laws.{order}
 use Rattle.std.specs.List.{AllByRecursion}
 use Rattle.std.proofs.ByRecursion.{All-push}
@@ -25,6 +25,7 @@ pub record Reached (S : Sealing) (w : Plain) (all : List plain.Call) (done : Lis
   pub answers : done ++ (run S q cs).answers ≡ (run S w all).answers
   pub medium : (run S q cs).medium ≡ (run S w all).medium
   pub left : (run S q cs).left ≡ (run S w all).left
+  pub closed : (run S q cs).closed ≡ (run S w all).closed
 
 module _ (S : Sealing) (w : Plain) (all : List plain.Call) (done : List (Result ℕ Fault)) (q : Plain) (cs : List plain.Call) where
   reached_append : (s : Sheet) → Reached S w all done q (append s ∷ cs) → Reached S w all (done ++ (append_answer S q s ∷ [])) (after_append S q s) cs
@@ -32,6 +33,7 @@ module _ (S : Sealing) (w : Plain) (all : List plain.Call) (done : List (Result 
     answers = append_assoc done (append_answer S q s ∷ []) (run S (after_append S q s) cs).answers ∙ h.answers;
     medium = h.medium;
     left = h.left;
+    closed = h.closed;
   }
 
   reached_refusal : (f : Fault) → close_answer S q ≡ Err f → Reached S w all done q (close ∷ cs) → Reached S w all (done ++ (Err f ∷ [])) q cs
@@ -39,6 +41,7 @@ module _ (S : Sealing) (w : Plain) (all : List plain.Call) (done : List (Result 
     answers = append_assoc done (Err f ∷ []) (run S q cs).answers ∙ ap (λ (x : Run). done ++ x.answers) (sym (ran f e)) ∙ h.answers;
     medium = ap (λ (x : Run). x.medium) (sym (ran f e)) ∙ h.medium;
     left = ap (λ (x : Run). x.left) (sym (ran f e)) ∙ h.left;
+    closed = ap (λ (x : Run). x.closed) (sym (ran f e)) ∙ h.closed;
   }
     where
       ran : (f : Fault) → close_answer S q ≡ Err f → run S q (close ∷ cs) ≡ answered (Err f) (next_nonce q) (run S q cs)
@@ -130,11 +133,12 @@ made_run S w calls slots n after le long e =
 
 -- what was made from an accepted start is a run
 pub made_is_run : (S : Sealing) (L : Laws S) (key : List ℕ) (number : ℕ) (start_medium : List ℕ) (w : Plain) → start S key number start_medium ≡ Ok w
-    → (calls : List Call) (slots n : ℕ) (before after : List (Result ℕ CardFault)) (medium : List ℕ) → n ≤ slots → slots ≤ length after
-    → Ran n before after medium (run S w (made_calls slots calls)) → AllByRecursion WellCall (made_calls n (take slots calls)) → IsRun S key w (made_calls n calls) (made_answers n after) medium
-made_is_run S L key number start_medium w starts calls slots n before after medium le long ran well =
+    → (calls : List Call) (slots n : ℕ) (before after : List (Result ℕ CardFault)) (medium : List ℕ) (closed : Option ℕ) → n ≤ slots → slots ≤ length after
+    → Ran n before after medium (run S w (made_calls slots calls)) → closed ≡ (run S w (made_calls slots calls)).closed → AllByRecursion WellCall (made_calls n (take slots calls)) → IsRun S key w (made_calls n calls) (made_answers n after) medium closed
+made_is_run S L key number start_medium w starts calls slots n before after medium closed le long ran ec well =
     let same = made_run S w calls slots n after le (omega arith) ran.answers in
     let well' : AllByRecursion WellCall (made_calls n calls) = subst (λ cs. AllByRecursion WellCall (map plain_call cs)) (take-take n slots calls le) well in
-    is_run S L key number start_medium w starts (made_calls n calls) (made_answers n after) medium well'
+    is_run S L key number start_medium w starts (made_calls n calls) (made_answers n after) medium closed well'
     (ran.answers ∙ ap (λ (x : Run). x.answers) (sym same))
     (ran.medium_is ∙ ap (λ (x : Run). x.medium) (sym same))
+    (ec ∙ ap (λ (x : Run). x.closed) (sym same))

@@ -26,6 +26,8 @@ pub enum Call<'a> {
 pub struct Replayed<C> {
     /// How many calls were made, each of which has its answer in its slot.
     pub made: usize,
+    /// The card's length, after an accepted close.
+    pub closed: Option<usize>,
     /// The writer, as the calls left it, so that a run can go on; none after an accepted close.
     pub writer: Option<Writer<C>>,
 }
@@ -42,6 +44,8 @@ fn make_calls<C: Sealer>(
         (run C.meaning w (made_calls (length answers.old) calls.now)) }
     ensures back { (w : Plain) → Stands writer medium.old w →
         GivenBack result.writer medium.new (run C.meaning w (made_calls (length answers.old) calls.now)).left }
+    ensures closed { (w : Plain) → Stands writer medium.old w →
+        result.closed ≡ (run C.meaning w (made_calls (length answers.old) calls.now)).closed }
     ensures made { result.made ≤ length answers.old }
     ensures well { AllByRecursion WellCall (made_calls result.made (take (length answers.old) calls.now)) }
 {
@@ -60,6 +64,7 @@ fn make_calls<C: Sealer>(
                     answers[i] = Ok(length);
                     return Replayed {
                         made: i + 1,
+                        closed: Some(length),
                         writer: None,
                     };
                 }
@@ -74,6 +79,7 @@ fn make_calls<C: Sealer>(
     }
     Replayed {
         made: count,
+        closed: None,
         writer: Some(open),
     }
 }
@@ -95,10 +101,13 @@ pub fn replay<C: Sealer>(
         (run C.meaning w (made_calls (length answers.old) calls.now)) }
     ensures back { (w : Plain) → Stands writer medium.old w →
         GivenBack result.writer medium.new (run C.meaning w (made_calls (length answers.old) calls.now)).left }
+    ensures closed { (w : Plain) → Stands writer medium.old w →
+        result.closed ≡ (run C.meaning w (made_calls (length answers.old) calls.now)).closed }
     ensures made { result.made ≤ length answers.old }
     ensures started { (key : List ℕ) (number : ℕ) (before : List ℕ) (w : Plain) →
         start C.meaning key number before ≡ Ok w → Stands writer medium.old w →
-        IsRun C.meaning key w (made_calls result.made calls.now) (made_answers result.made answers.new) medium.new }
+        IsRun C.meaning key w (made_calls result.made calls.now) (made_answers result.made answers.new)
+        medium.new result.closed }
     ensures law { RunsHold C.meaning }
 {
     make_calls(writer, medium, calls, answers)
