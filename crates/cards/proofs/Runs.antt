@@ -1,5 +1,5 @@
 -- Whole runs: what a closed card is, and which lists are written.
-use Rattle.std.proofs.Common.{◌≡◌, ℕ, suc, ◌+◌, ◌≤◌, true, false, List, [], ◌∷◌, ◌++◌, length, take, drop, Some, Ok, Err, Result, sym, refl, ap, ◌∙◌, subst, arith}
+use Rattle.std.proofs.Common.{◌≡◌, ℕ, suc, ◌+◌, ◌≤◌, true, false, List, [], ◌∷◌, ◌++◌, length, take, drop, Some, None, Ok, Err, Option, Result, sym, refl, ap, ◌∙◌, subst, arith}
 use Rattle.std.specs.List.{AllByRecursion}
 use Rattle.std.proofs.lemmas.List.{append_assoc, append-nil, length-append, length-drop, length_push}
 use Rattle.sealer.specs.Sealing.{Sealing, Laws}
@@ -134,3 +134,24 @@ run_made S (close ∷ cs) w = by (run_made S cs w) (close_answer S w) refl
     by ih (Err f) e =
         ap (λ a. closing S w a (run S w (take (length (run S w cs).answers) cs))) e
         ∙ ap (answered (Err f) (next_nonce w)) ih
+
+-- two runs, of which the second goes on where the first left off
+abbrev pub joined : Run → Run → Run
+joined x y = record { answers = x.answers ++ y.answers; nonces = x.nonces ++ y.nonces; medium = y.medium; closed = y.closed; left = y.left }
+
+joined_answered : (a : Result ℕ Fault) (n : List ℕ) (x y : Run) → answered a n (joined x y) ≡ joined (answered a n x) y
+joined_answered (Ok k) n x y = refl
+joined_answered (Err f) n x y = refl
+
+-- the run of calls after earlier ones, which left a writer
+pub run_on : (S : Sealing) (earlier cs : List Call) (w v : Plain) → (run S w earlier).left ≡ Some v → run S w (earlier ++ cs) ≡ joined (run S w earlier) (run S v cs)
+run_on S [] cs w v e = let same : w ≡ v = cc in ap (λ z. run S z cs) same
+run_on S (append s ∷ earlier) cs w v e =
+    let u : Plain = left_by (append_answer S w s) (appended S w s) w in
+    ap (answered (append_answer S w s) (next_nonce w)) (run_on S earlier cs u v e)
+    ∙ joined_answered (append_answer S w s) (next_nonce w) (run S u earlier) (run S v cs)
+run_on S (close ∷ earlier) cs w v e = by (close_answer S w) (run_on S earlier cs w v) e
+  where
+    by : (a : Result ℕ Fault) → ((run S w earlier).left ≡ Some v → run S w (earlier ++ cs) ≡ joined (run S w earlier) (run S v cs)) → (closing S w a (run S w earlier)).left ≡ Some v → closing S w a (run S w (earlier ++ cs)) ≡ joined (closing S w a (run S w earlier)) (run S v cs)
+    by (Ok n) ih h = absurd (let z : ◌≡◌ {A = ℕ} 0 1 = cc in omega arith)
+    by (Err f) ih h = ap (answered (Err f) (next_nonce w)) (ih h)

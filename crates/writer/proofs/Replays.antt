@@ -1,8 +1,8 @@
 -- One call after another of a run.
-use Rattle.std.proofs.Common.{◌≡◌, ℕ, ◌+◌, ◌<◌, ◌≤◌, min, List, [], ◌∷◌, ◌++◌, map, length, get_or, take, drop, set, Ok, Err, Option, Result, sym, ap, ◌∙◌, subst, ⊎_elim, take-take, length-take-le, arith, Bor}
+use Rattle.std.proofs.Common.{◌≡◌, ℕ, ◌+◌, ◌<◌, ◌≤◌, min, List, [], ◌∷◌, ◌++◌, map, length, get_or, take, drop, set, Some, Ok, Err, Option, Result, sym, ap, ◌∙◌, subst, ⊎_elim, take-take, length-take-le, arith, Bor}
 use Rattle.std.proofs.str.Laws.{order}
 use Rattle.std.specs.List.{AllByRecursion}
-use Rattle.std.proofs.ByRecursion.{All-push}
+use Rattle.std.proofs.ByRecursion.{All-append, All-push}
 use Rattle.std.proofs.lemmas.List.{append_assoc, drop-drop, drop-set-lt, drop_more, length-map, map-append, take_all, take-map, take_more}
 use Rattle.sealer.specs.Sealing.{Sealing, Laws}
 use Rattle.cards.specs.Faults.{Fault, told, of_card}
@@ -16,7 +16,7 @@ use Rattle.writer.specs.declared.runs.Call.{Call}
 use Rattle.writer.specs.declared.runs.Call.TheVariants.{Append, Close}
 use Rattle.writer.specs.declared.writer.Writer.{Writer}
 use Rattle.cards.proofs.Claims.{is_run}
-use Rattle.cards.proofs.Runs.{run_made}
+use Rattle.cards.proofs.Runs.{run_made, joined, run_on}
 use Rattle.writer.specs.Replay.{plain_call, made_calls, made_answers, Ran}
 use Rattle.writer.specs.Stands.{Stands}
 
@@ -132,13 +132,15 @@ made_run S w calls slots n after le long e =
     ap (run S w) (sym same) ∙ ap (λ k. run S w (take k all)) (sym count) ∙ run_made S all w
 
 -- what was made from an accepted start is a run
-pub made_is_run : (S : Sealing) (L : Laws S) (key : List ℕ) (number : ℕ) (start_medium : List ℕ) (w : Plain) → start S key number start_medium ≡ Ok w
+pub made_is_run : (S : Sealing) (L : Laws S) (key : List ℕ) (number : ℕ) (start_medium : List ℕ) (begun w : Plain) (earlier : List plain.Call) → start S key number start_medium ≡ Ok begun → AllByRecursion WellCall earlier → (run S begun earlier).left ≡ Some w
     → (calls : List Call) (slots n : ℕ) (before after : List (Result ℕ CardFault)) (medium : List ℕ) (closed : Option ℕ) → n ≤ slots → slots ≤ length after
-    → Ran n before after medium (run S w (made_calls slots calls)) → closed ≡ (run S w (made_calls slots calls)).closed → AllByRecursion WellCall (made_calls n (take slots calls)) → IsRun S key w (made_calls n calls) (made_answers n after) medium closed
-made_is_run S L key number start_medium w starts calls slots n before after medium closed le long ran ec well =
+    → Ran n before after medium (run S w (made_calls slots calls)) → closed ≡ (run S w (made_calls slots calls)).closed → AllByRecursion WellCall (made_calls n (take slots calls)) → IsRun S key begun (earlier ++ made_calls n calls) ((run S begun earlier).answers ++ made_answers n after) medium closed
+made_is_run S L key number start_medium begun w earlier starts past left calls slots n before after medium closed le long ran ec well =
     let same = made_run S w calls slots n after le (omega arith) ran.answers in
     let well' : AllByRecursion WellCall (made_calls n calls) = subst (λ cs. AllByRecursion WellCall (map plain_call cs)) (take-take n slots calls le) well in
-    is_run S L key number start_medium w starts (made_calls n calls) (made_answers n after) medium closed well'
-    (ran.answers ∙ ap (λ (x : Run). x.answers) (sym same))
-    (ran.medium_is ∙ ap (λ (x : Run). x.medium) (sym same))
-    (ec ∙ ap (λ (x : Run). x.closed) (sym same))
+    let first = run S begun earlier in
+    let on : joined first (run S w (made_calls slots calls)) ≡ run S begun (earlier ++ made_calls n calls) = ap (joined first) (sym same) ∙ sym (run_on S earlier (made_calls n calls) begun w left) in
+    is_run S L key number start_medium begun starts (earlier ++ made_calls n calls) (first.answers ++ made_answers n after) medium closed (All-append WellCall earlier (made_calls n calls) past well')
+    (ap (λ (as' : List (Result ℕ Fault)). first.answers ++ as') ran.answers ∙ ap (λ (x : Run). x.answers) on)
+    (ran.medium_is ∙ ap (λ (x : Run). x.medium) on)
+    (ec ∙ ap (λ (x : Run). x.closed) on)

@@ -1,8 +1,9 @@
-ghost use Rattle.std.specs.Prelude.{◌≡◌, ℕ, ◌≤◌, List, length, take, Ok};
+ghost use Rattle.std.specs.Prelude.{◌≡◌, ℕ, ◌≤◌, List, ◌++◌, length, take, Some, Ok};
 ghost use Rattle.std.specs.List.{AllByRecursion};
 ghost use Rattle.cards.specs.Claims.{WellCall, IsRun, RunsHold};
 ghost use Rattle.cards.specs.Plain.{Plain, start};
 ghost use Rattle.cards.specs.Runs.{run};
+ghost use Rattle.cards.specs.Runs as plain;
 ghost use Rattle.writer.specs.Replay.{made_calls, made_answers, Ran, GivenBack};
 ghost use Rattle.writer.specs.Stands.{Stands};
 
@@ -88,8 +89,8 @@ fn make_calls<C: Sealer>(
 ///
 /// An accepted close comes last. No more calls are made than there are slots, and the slots after the calls that were made stay.
 /// Answers and medium are those of the plain writer's run, and the writer that is given back stands for the plain one that is
-/// left (docs/cards.md). The calls made on a writer that was started never seal twice under one nonce, and a closed card reads
-/// as the accepted sheets, in order.
+/// left (docs/cards.md). The calls made on a writer since it was started, those before this call and those of it, never seal
+/// twice under one nonce, and a closed card reads as the accepted sheets, in order.
 pub fn replay<C: Sealer>(
     writer: Writer<C>,
     medium: &mut [u8],
@@ -104,10 +105,11 @@ pub fn replay<C: Sealer>(
     ensures closed { (w : Plain) → Stands writer medium.old w →
         result.closed ≡ (run C.meaning w (made_calls (length answers.old) calls.now)).closed }
     ensures made { result.made ≤ length answers.old }
-    ensures started { (key : List ℕ) (number : ℕ) (before : List ℕ) (w : Plain) →
-        start C.meaning key number before ≡ Ok w → Stands writer medium.old w →
-        IsRun C.meaning key w (made_calls result.made calls.now) (made_answers result.made answers.new)
-        medium.new result.closed }
+    ensures started { (key : List ℕ) (number : ℕ) (before : List ℕ) (begun w : Plain) (earlier : List plain.Call) →
+        start C.meaning key number before ≡ Ok begun → AllByRecursion WellCall earlier →
+        (run C.meaning begun earlier).left ≡ Some w → Stands writer medium.old w →
+        IsRun C.meaning key begun (earlier ++ made_calls result.made calls.now)
+        ((run C.meaning begun earlier).answers ++ made_answers result.made answers.new) medium.new result.closed }
     ensures law { RunsHold C.meaning }
 {
     make_calls(writer, medium, calls, answers)
