@@ -110,6 +110,22 @@ class Permutation(ABC):
         """Undo all steps."""
         return self.back_by(state, self.steps)
 
+    def page(self, state: bytes, s: int, room: int) -> bytes:
+        """The diffusion page of a state after s steps, for a buffer of `room` bytes."""
+        after = int.from_bytes(self.forward_by(state, s), "big")
+        if room < 33 * (self.size + 1):
+            refuse(Number.ROOM_SHORT, Layer.CIPHER)
+        bits = 8 * self.size
+        number = int.from_bytes(state, "big")
+        counts = []
+        for i in range(bits):
+            flipped = (number ^ 1 << bits - 1 - i).to_bytes(self.size, "big")
+            changed = int.from_bytes(self.forward_by(flipped, s), "big") ^ after
+            counts.append(bin(changed).count("1"))
+        lines = ["".join(f"{count:4}" for count in counts[i:i + 8]) for i in range(0, bits, 8)]
+        lines.append(f"sum{sum(counts):29}")
+        return "".join(line + "\n" for line in lines).encode("ascii")
+
     def _ask_steps(self, s: int) -> None:
         if s > self.steps:
             refuse(Number.TOO_MANY_STEPS, Layer.CIPHER)

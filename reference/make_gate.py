@@ -14,7 +14,7 @@ from workbench import Workbench
 HERE = os.path.dirname(os.path.abspath(__file__))
 CRATE = os.path.join(HERE, "..", "crates", "workbench")
 LONGEST = 20_000
-SEEDS = {"permutations": 11, "steps": 20, "cipher": 12, "test": 17, "cards": 13, "writer": 14, "unread": 15,
+SEEDS = {"permutations": 11, "steps": 20, "pages": 21, "cipher": 12, "test": 17, "cards": 13, "writer": 14, "unread": 15,
          "edges": 16}
 
 

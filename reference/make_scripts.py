@@ -155,6 +155,50 @@ def steps_unread(script: Script) -> None:
     script.raw("end")
 
 
+# The diffusion page
+
+def pages(script: Script) -> None:
+    for name, permutation in PERMUTATIONS.items():
+        size, full = permutation.size, permutation.steps
+        length = 33 * (size + 1)
+        states = [bytes(size), b"\xFF" * size, bytes(range(size)), script.some_bytes(size)]
+        script.note(f"pages of {name}")
+        for s in sorted({0, 1, 2, full // 3, full - 1, full} & set(range(full + 1))):
+            script.call("page", name, s, script.random.choice(states), length)
+        for state in states:
+            script.call("page", name, script.random.randrange(full + 1), state,
+                        length + script.random.randrange(5))
+        script.note("buffers at their edge, and more steps than there are")
+        for s in (0, full, full + 1, HUGE):
+            for room in (0, 1, 33, length - 1, length, length + 1):
+                script.call("page", name, s, states[3], room)
+    pages_unread(script)
+
+
+def pages_unread(script: Script) -> None:
+    """Words that are wrong, one and two of them, in reading order."""
+    script.note("pages that can't be read")
+    state = b"\x01" * 24
+    over = 1 << 64
+    for words in (
+            (), ("193",), ("192",), ("192", 6), ("192", 6, state), ("192", 6, state, ""),
+            ("193", "x", state, 825), ("192", "x", "0", "y"), ("192", 6, "0", "y"),
+            ("192", 6, state, "y"), ("192", 6, state, "-1"), ("192", over, state, over),
+            ("192", 6, state, over), ("192", 6, state, 825, ""), ("192", 6, state, 825, "00"),
+            ("192", 6, state[1:], 825), ("192", 19, state[1:], 0), ("192", 6, state[1:], 825, 0),
+            ("256", 6, state, 1089), ("bench", 1, state, 1089), ("192", 6, b"", 825),
+            ("192", 6, state, HUGE), ("192", 19, state, HUGE), ("192", 6, 825, state)):
+        script.call("page", *words)
+    for call in ("pages", "Page", "page-by", "pag"):
+        script.call(call, "192", 6, state, 825)
+    script.note("within a card, which stays")
+    script.raw(f"write 9 {KEY} 1 60 00")
+    script.call("page", "192", 6, state, 825)
+    script.call("page")
+    script.raw("close")
+    script.raw("end")
+
+
 # The cipher
 
 @dataclass(frozen=True)
@@ -1329,6 +1373,7 @@ def edges(script: Script) -> None:
 KINDS: dict[str, Callable[[Script], None]] = {
     "permutations": permutations,
     "steps": steps,
+    "pages": pages,
     "cipher": cipher,
     "test": tests,
     "cards": cards,

@@ -2,6 +2,7 @@
 
 from __future__ import annotations
 
+import os
 import sys
 
 from random import Random
@@ -12,6 +13,8 @@ from dukkovil import (BENCH, BENCH_PERMUTATION, BENCH_SEALER, LIGHT192, LIGHT256
                       SPOC128, Card, Fault, Head, Permutation, Refused, Sealer, Spoc,
                       Suite, Writer, xor)
 from workbench import Workbench
+
+DOCS = os.path.join(os.path.dirname(os.path.abspath(__file__)), "..", "docs")
 
 KEY = b"\1" * 8 + b"\2" * 8
 NONCE = b"\4" * 8 + b"\x08" * 8
@@ -99,6 +102,29 @@ def check_permutations(checks: Checks) -> None:
             checks.same("more steps than there are",
                         str(fault_of(lambda: call(state, permutation.steps + 1))),
                         "refused 21 layer 1 record 0 place 0")
+
+
+def check_pages(checks: Checks) -> None:
+    for state in (bytes(32), bytes(range(32)), b"\xFF" * 32):
+        page = BENCH_PERMUTATION.page(state, 1, 1089)
+        lines = page.decode().split("\n")
+        checks.same("bench page, the first 64 bits", lines[:8], ["   2" * 8] * 8)
+        checks.same("bench page, the others", lines[8:32], ["   1" * 8] * 24)
+        checks.same("bench page, the sum", lines[32:], ["sum" + " " * 26 + "320", ""])
+        checks.same("page by none", BENCH_PERMUTATION.page(state, 0, 1089),
+                    b"   1   1   1   1   1   1   1   1\n" * 32 + b"sum" + b" " * 26 + b"256\n")
+    zeros = bytes(24)
+    with open(os.path.join(DOCS, "permutations.md"), encoding="utf-8") as file:
+        text = file.read()
+    for s in (6, 18):
+        page = LIGHT192.page(zeros, s, 825).decode()
+        checks.same("length of a page", len(page), 825)
+        shown = "".join(f"    {line}\n" for line in page.split("\n")[:-1])
+        checks.same(f"page after {s} steps, in docs", shown in text, True)
+    checks.same("steps before room", str(fault_of(lambda: LIGHT192.page(zeros, 19, 0))),
+                "refused 21 layer 1 record 0 place 0")
+    checks.same("room", str(fault_of(lambda: LIGHT192.page(zeros, 18, 824))),
+                "refused 4 layer 1 record 0 place 0")
 
 
 def check_suites(checks: Checks) -> None:
@@ -549,7 +575,7 @@ def check_other_sealer(checks: Checks) -> None:
 
 def main() -> int:
     checks = Checks()
-    for part in (check_permutations, check_suites, check_cipher, check_questions, check_test,
+    for part in (check_permutations, check_pages, check_suites, check_cipher, check_questions, check_test,
                  check_through_open, check_bench_cards, check_tag_in_pencil, check_said_of_cards,
                  check_workbench, check_listing, check_other_suite, check_other_sealer):
         part(checks)

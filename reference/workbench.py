@@ -159,6 +159,22 @@ def read_steps(words: Words) -> tuple[Permutation, int, bytes]:
     return permutation, s, read_last_state(words, name, permutation)
 
 
+def call_page(words: Words) -> Lines:
+    name, permutation = words.take_permutation()
+    s = words.take_number()
+    state = words.take_bytes()
+    room = words.take_number()
+    words.end()
+    ask_length(name, permutation, state)
+    rest = buffer(room)
+    try:
+        page = permutation.page(state, s, room)
+    except Refused as refused:
+        return [str(refused.fault), f"rest {shown(rest)}"]
+    lines = page.decode("ascii").split("\n")
+    return lines[:-1] + [f"rest {shown(rest[len(page):])}"]
+
+
 def stepped(state: bytes, call: Callable[[], bytes]) -> Lines:
     """The state after the call, which stays below a refusal."""
     try:
@@ -340,6 +356,7 @@ CALLS: dict[bytes, Callable[[Words], Lines]] = {
     b"trace": call_trace,
     b"forward-by": call_forward_by,
     b"back-by": call_back_by,
+    b"page": call_page,
     b"seal": call_seal,
     b"open": call_open,
     b"seal-into": call_seal_into,

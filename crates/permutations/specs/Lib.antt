@@ -4,6 +4,7 @@ pub mod Constants
 pub mod Fault
 pub mod Known
 pub mod Light
+pub mod Page
 pub mod Permutation
 pub mod Simeck
 pub mod Steps

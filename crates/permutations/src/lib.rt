@@ -6,13 +6,15 @@ mod constants;
 mod fault;
 mod known;
 mod light;
+mod page;
 mod permutation;
 mod simeck;
 mod steps;
 mod width;
 
 pub use bench::Bench;
-pub use fault::TooManySteps;
+pub use fault::{PageFault, TooManySteps};
 pub use known::{FirstSteps, first_steps};
 pub use light::{Light, Light192, Light256};
+pub use page::diffusion_page;
 pub use permutation::{Bijection, Permutation, there_and_back};

@@ -4,7 +4,7 @@ use Rattle.std.specs.Str.{bytes_eq}
 use Rattle.script.specs.declared.names.CallName.{CallName}
 use Rattle.script.specs.declared.names.CallName.TheVariants.{Permutation, Cipher, Reader, Write, Writer}
 use Rattle.script.specs.declared.names.CipherCall.TheVariants.{Seal, Open, SealInto, OpenInto, Test}
-use Rattle.script.specs.declared.names.PermutationCall.TheVariants.{Forward, Back, Trace, ForwardBy, BackBy}
+use Rattle.script.specs.declared.names.PermutationCall.TheVariants.{Forward, Back, Trace, ForwardBy, BackBy, Page}
 use Rattle.script.specs.declared.names.ReaderCall.TheVariants.{Check, Sheet, Find}
 use Rattle.script.specs.declared.names.WriterCall.TheVariants.{Append, Close, End}
 use Rattle.script.specs.declared.names.PermutationName.{PermutationName}
@@ -20,6 +20,7 @@ call_named w =
     (cond (bytes_eq w (codes "trace")) (Ok (Permutation Trace))
     (cond (bytes_eq w (codes "forward-by")) (Ok (Permutation ForwardBy))
     (cond (bytes_eq w (codes "back-by")) (Ok (Permutation BackBy))
+    (cond (bytes_eq w (codes "page")) (Ok (Permutation Page))
     (cond (bytes_eq w (codes "seal")) (Ok (Cipher Seal))
     (cond (bytes_eq w (codes "open")) (Ok (Cipher Open))
     (cond (bytes_eq w (codes "seal-into")) (Ok (Cipher SealInto))
@@ -31,7 +32,7 @@ call_named w =
     (cond (bytes_eq w (codes "write")) (Ok Write)
     (cond (bytes_eq w (codes "append")) (Ok (Writer Append))
     (cond (bytes_eq w (codes "close")) (Ok (Writer Close))
-    (cond (bytes_eq w (codes "end")) (Ok (Writer End)) (Err UnknownCall)))))))))))))))))
+    (cond (bytes_eq w (codes "end")) (Ok (Writer End)) (Err UnknownCall))))))))))))))))))
 
 -- the word that names a permutation
 abbrev pub name_text : PermutationName → List ℕ

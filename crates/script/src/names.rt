@@ -12,6 +12,7 @@ pub enum PermutationCall {
     Trace,
     ForwardBy,
     BackBy,
+    Page,
 }
 
 // A call of the cipher.
@@ -63,6 +64,7 @@ impl TryFrom<&[u8]> for CallName {
             b"trace" => Ok(CallName::Permutation(PermutationCall::Trace)),
             b"forward-by" => Ok(CallName::Permutation(PermutationCall::ForwardBy)),
             b"back-by" => Ok(CallName::Permutation(PermutationCall::BackBy)),
+            b"page" => Ok(CallName::Permutation(PermutationCall::Page)),
             b"seal" => Ok(CallName::Cipher(CipherCall::Seal)),
             b"open" => Ok(CallName::Cipher(CipherCall::Open)),
             b"seal-into" => Ok(CallName::Cipher(CipherCall::SealInto)),

@@ -1,13 +1,16 @@
 -- What the calls on a permutation read and print. Assumes nothing.
-use Rattle.std.specs.Prelude.{ℕ, zero, suc, List, [], ◌∷◌, ◌++◌, length, Ok, Err, codes, decimal, Result, ◌==◌, if◌then◌else◌}
-use Rattle.permutations.specs.Fault.{refused_text}
+use Rattle.std.specs.Prelude.{ℕ, zero, suc, List, [], ◌∷◌, ◌++◌, length, take, drop, Ok, Err, codes, decimal, Result, ◌==◌, if◌then◌else◌}
+use Rattle.card_calls.specs.Readings.{fresh}
+use Rattle.permutations.specs.Fault.{refused_text, page_number}
+use Rattle.permutations.specs.Page.{page_answer, page_buffer}
 use Rattle.permutations.specs.Permutation.{Perm, steps_answer, forward_state, back_state}
+use Rattle.permutations.specs.declared.PageFault.{PageFault}
 use Rattle.permutations.specs.declared.TooManySteps.{TooManySteps}
 use Rattle.script.specs.Hex.{bytes_of, hex_text}
 use Rattle.script.specs.Numbers.{number_of}
 use Rattle.script.specs.Words.{with_read, with_next, ending}
 use Rattle.script.specs.declared.PermutationCall.{PermutationCall}
-use Rattle.script.specs.declared.PermutationCall.TheVariants.{Forward, Back, Trace, ForwardBy, BackBy}
+use Rattle.script.specs.declared.PermutationCall.TheVariants.{Forward, Back, Trace, ForwardBy, BackBy, Page}
 use Rattle.script.specs.declared.PermutationName.{PermutationName}
 use Rattle.script.specs.declared.Unread.{Unread}
 use Rattle.script.specs.declared.Unread.TheVariants.{StateLength}
@@ -30,6 +33,19 @@ unfoldable pub trace_text : Perm → ℕ → List ℕ → List ℕ
 trace_text p zero s = step_text 0 s
 trace_text p (suc n) s = trace_text p n s ++ step_text (suc n) (p.forward_by (suc n) s)
 
+-- rest BYTES
+abbrev pub rest_text : List ℕ → List ℕ
+rest_text bs = codes "rest " ++ (hex_text bs ++ (10 ∷ []))
+
+-- the page as it stands at the front of a buffer, or the refusal; and the bytes of the buffer after the page
+abbrev pub page_text : Result ℕ PageFault → List ℕ → List ℕ
+page_text (Ok n) buffer = take n buffer ++ rest_text (drop n buffer)
+page_text (Err e) buffer = refused_text (page_number e) 1 ++ ((10 ∷ []) ++ rest_text buffer)
+
+-- what a page into a buffer of this length prints
+abbrev pub page_with : Perm → ℕ → List ℕ → ℕ → List ℕ
+page_with p n s room = page_text (page_answer p n (length (fresh room))) (page_buffer p n s (fresh room))
+
 -- a state of b bytes is asked for, where P is named `of`
 abbrev pub state_of : PermutationName → ℕ → List ℕ → Result (List ℕ) Unread
 state_of of b s = if length s == b then Ok s else Err (StateLength of b (length s))
@@ -51,3 +67,9 @@ state_asked of p ForwardBy ws =
 state_asked of p BackBy ws =
     with_next number_of ws (λ n ws.
     with_read (last_state of p.size ws) (λ s. Ok (steps_text (steps_answer p n) (back_state p n s))))
+state_asked of p Page ws =
+    with_next number_of ws (λ n ws.
+    with_next bytes_of ws (λ s ws.
+    with_next number_of ws (λ room ws.
+    with_read (ending ws) (λ _.
+    with_read (state_of of p.size s) (λ x. Ok (page_with p n x room))))))

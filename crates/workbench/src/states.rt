@@ -1,14 +1,15 @@
 ghost use Rattle.std.specs.Prelude.{◌≡◌, IfOk, Some, string_bytes};
 ghost use Rattle.script.specs.Reasons.{Holds};
 ghost use Rattle.script.specs.Words.{left};
-ghost use Rattle.script.specs.declared.PermutationCall.TheVariants.{ForwardBy, BackBy};
-ghost use Rattle.workbench.specs.States.{state_text, steps_text, step_text, trace_text, state_of, last_state, state_asked};
+ghost use Rattle.script.specs.declared.PermutationCall.TheVariants.{ForwardBy, BackBy, Page};
+ghost use Rattle.workbench.specs.States.{state_text, steps_text, step_text, trace_text, page_with, state_of, last_state, state_asked};
 
-use permutations::{Permutation, TooManySteps};
+use card_calls::FILLER;
+use permutations::{Permutation, TooManySteps, diffusion_page};
 use script::{Hex, PermutationCall, PermutationName, Unread, Words, read_bytes, read_number};
 use std::alloc::{AllocError, Global};
-use std::fmt;
 use std::fmt::Write;
+use std::{fmt, str};
 
 // The line that shows a state: all that forward and back answer, so it is a String at once.
 fn state_line(heap: Global, state: &[u8]) -> Result<String, AllocError>
@@ -140,6 +141,48 @@ fn call_back_by<const B: usize, P: Permutation<B>>(
     Ok(stepped.to_string(heap)?)
 }
 
+// Writes a page into a buffer of this length, and shows what is in it.
+fn page<const B: usize, P: Permutation<B>>(
+    heap: Global,
+    state: &[u8; B],
+    s: usize,
+    room: usize,
+) -> Result<String, AllocError>
+    ensures { IfOk result (λ t. string_bytes t ≡ page_with P.Bijection.meaning s state.now room) }
+{
+    let mut buffer = vec![in heap; FILLER; room]?;
+    match diffusion_page::<B, P>(state, s, buffer.as_mut_slice()) {
+        Ok(length) => {
+            let (page, rest) = buffer.as_slice().split_at(length);
+            // A page is ASCII.
+            let page = str::from_utf8(page).unwrap();
+            let rest = Hex(rest);
+            format!(in heap; "{page}rest {rest}\n")
+        }
+        Err(fault) => {
+            let rest = Hex(buffer.as_slice());
+            format!(in heap; "{fault}\nrest {rest}\n")
+        }
+    }
+}
+
+// The words of page: S STATE ROOM.
+#[tactic(auto, unfolding(crate::specs::States::state_asked))]
+fn call_page<const B: usize, P: Permutation<B>>(
+    heap: Global,
+    of: PermutationName,
+    mut words: Words,
+) -> Result<String, Unread>
+    ensures { Holds string_bytes result (state_asked of P.Bijection.meaning Page (left words.entry)) }
+{
+    let s = read_number(words.next_word()?)?;
+    let bytes = read_bytes(heap, words.next_word()?)?;
+    let room = read_number(words.next_word()?)?;
+    words.finish()?;
+    let state = state_of::<B>(of, bytes.as_slice())?;
+    Ok(page::<B, P>(heap, &state, s as usize, room as usize)?)
+}
+
 // Makes a call on a state of a permutation, from the words after its name.
 #[tactic(auto, unfolding(crate::specs::States::state_asked))]
 pub(crate) fn call_on<const B: usize, P: Permutation<B>>(
@@ -167,5 +210,6 @@ pub(crate) fn call_on<const B: usize, P: Permutation<B>>(
         }
         PermutationCall::ForwardBy => call_forward_by::<B, P>(heap, of, words),
         PermutationCall::BackBy => call_back_by::<B, P>(heap, of, words),
+        PermutationCall::Page => call_page::<B, P>(heap, of, words),
     }
 }
