@@ -1,3 +1,3 @@
 mod Tracing
 mod Turns
-mod Scripts
+pub mod Scripts
