@@ -1,7 +1,6 @@
-use Rattle.std.proofs.Common.{vec_items, string_bytes, rules, sym, ap, ◌∙◌, subst}
+use Rattle.std.proofs.Common.{vec_items, string_bytes, rules, ◌∙◌, subst}
 use Rattle.std.proofs.lemmas.Result.{err_from_is_err_and}
 use Rattle.std.specs.Option.{option_map}
-use Rattle.std.specs.Io.Iter.{split_known_bytes}
 use Rattle.std.specs.Io.KnownBytes.{Appends}
 use Rattle.streams.specs.Fronts.{AppendsFront}
 use Rattle.card_calls.specs.Writings.{draft_in}
