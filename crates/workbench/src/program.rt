@@ -8,10 +8,12 @@ use std::io;
 use std::io::{BufRead, Write};
 use streams::write_bytes;
 
-/// The whole program: reads a script line by line, and writes what each line answers before it reads the next. Where it fails, by
-/// reading, by writing or for want of memory even to say so, a front of what the script may print has been written.
+/// The whole program: reads a script line by line, and writes what each line answers before it reads the next. Where
+/// it fails, by reading, by writing or for want of memory even to say so, a front of what the script may print has been
+/// written.
 pub fn run<R: BufRead + Drop, W: Write>(heap: Global, script: R, out: &mut W) -> io::Result<()>
-    ensures { IfSome (R.remaining script) (λ bytes. (text : List ℕ) × MayPrintAll None (lines_of bytes) text
+    ensures { IfSome (R.remaining script) (λ bytes.
+        (text : List ℕ) × MayPrintAll None (lines_of bytes) text
         × Writes result (W.contents out.old) (W.contents out.new) text) }
 {
     let mut workbench = Workbench::new();
