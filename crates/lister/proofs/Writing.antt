@@ -1,5 +1,5 @@
 -- Texts that are written in parts, and the part of a source that is read.
-use Rattle.std.proofs.Common.{◌≡◌, ℕ, ◌<◌, ◌≤◌, true, false, List, [], ◌∷◌, ◌++◌, length, take, Some, None, IfSome, Ok, Err, Option, Result, sym, refl, ap, ◌∙◌, subst, arith, append-nil, length-take-le, take_all, nat_le, inl, inr}
+use Rattle.std.proofs.Common.{◌≡◌, ℕ, ◌<◌, ◌≤◌, true, false, List, [], ◌++◌, length, take, Some, None, IfSome, Ok, Err, Option, Result, sym, refl, ap, ◌∙◌, subst, arith, append-nil, length-take-le, take_all, nat_le, inl, inr}
 use Rattle.std.proofs.lemmas.Bool.{cases_lt}
 use Rattle.std.proofs.lemmas.Bool.Decides.{nat_tests}
 use Rattle.std.specs.Io.KnownBytes.{Appends}

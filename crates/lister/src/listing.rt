@@ -1,4 +1,4 @@
-ghost use Rattle.std.specs.Prelude.{◌≡◌, List, ◌++◌, ◌∷◌, [], Ok, Some, IfSome, OnOk, drop};
+ghost use Rattle.std.specs.Prelude.{◌≡◌, List, ◌++◌, ◌∷◌, [], Ok, Some, IfSome, OnOk, drop, ◌≢◌};
 ghost use Rattle.streams.specs.Fronts.{Writes, LosesFront};
 ghost use Rattle.cards.specs.Faults.{at, told, of_card, refused_text};
 ghost use Rattle.cards.specs.Format.{Sheet};
@@ -193,7 +193,8 @@ fn list_input<W: Write>(input: &[u8], out: &mut W) -> Result<(), Unlisted>
     list_card(key, bytes, out)
 }
 
-/// Writes what is printed of an input: the card's lines, or only why it is refused. A failed write leaves a front of that text.
+/// Writes what is printed of an input: the card's lines, or only why it is refused. A failed write leaves a front of
+/// that text.
 pub fn list<W: Write>(input: &[u8], out: &mut W) -> io::Result<()>
     ensures { Writes result (W.contents out.old) (W.contents out.new) (listing_text input.now) }
 {
@@ -204,14 +205,17 @@ pub fn list<W: Write>(input: &[u8], out: &mut W) -> io::Result<()>
     }
 }
 
-/// The whole program: reads an input and writes its listing. It reads one byte more than an input may have, and no further. A failed
-/// read leaves nothing written, a failed write a front of the listing.
+/// The whole program: reads an input and writes its listing. It reads one byte more than an input may have, and no
+/// further. A failed read leaves nothing written, a failed write a front of the listing.
 pub fn run<R: Read, W: Write>(source: &mut R, out: &mut W) -> io::Result<()>
     ensures written { IfSome (R.remaining source.old) (λ input.
         Writes result (W.contents out.old) (W.contents out.new) (listing_text input)) }
     ensures read { OnOk result (IfSome (R.remaining source.old) (λ input.
         R.remaining source.new ≡ Some (drop 65553 input))) }
     ensures lost { LosesFront 65553 (R.remaining source.old) (R.remaining source.new) }
+    ensures unread { IfSome (R.remaining source.old) (λ input.
+        R.remaining source.new ≢ Some (drop 65553 input)
+        → W.contents out.new ≡ W.contents out.old) }
 {
     let mut input = [0; MOST_INPUT + 1];
     let length = read_front(source, &mut input)?;

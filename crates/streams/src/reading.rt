@@ -4,7 +4,8 @@ ghost use Rattle.streams.specs.Fronts.{ReadsFront, LosesFront};
 use std::io;
 use std::io::{ErrorKind, Read};
 
-/// Reads until the buffer is full or the source has ended, and answers how many bytes it read to the buffer's front.
+/// Reads until the buffer is full or the source has ended, and answers how many bytes it read to the buffer's
+/// front.
 pub fn read_front<R: Read>(source: &mut R, buffer: &mut [u8]) -> io::Result<usize>
     ensures within { IfOk result (λ n. n ≤ length buffer.new) }
     ensures ok { IfOk result (λ n. ReadsFront (length buffer.old)

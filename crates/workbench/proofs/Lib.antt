@@ -1,3 +1,4 @@
 mod Tracing
 mod Turns
 pub mod Texts
+pub mod Scripts

@@ -1,3 +1,4 @@
 pub mod Printed
 pub mod Sealings
 pub mod States
+pub mod Scripts

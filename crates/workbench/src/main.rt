@@ -3,17 +3,17 @@
 
 mod calls;
 mod cipher;
+mod program;
 mod session;
 mod states;
 
-use session::Workbench;
-use std::io::{BufRead, BufReader};
+use std::io::BufReader;
 
 fn main(rt: HostRuntime) -> anyhow::Result<()> {
-    let mut workbench = Workbench::new();
-    for line in BufReader::new(rt.alloc(), rt.stdin())?.split(rt.alloc(), b'\n') {
-        let line = line?;
-        rt.print(workbench.answer(rt.alloc(), line.as_slice())?)?;
-    }
+    program::run(
+        rt.alloc(),
+        BufReader::new(rt.alloc(), rt.stdin())?,
+        &mut rt.stdout(),
+    )?;
     Ok(())
 }

@@ -1,4 +1,4 @@
-use Rattle.std.proofs.Common.{List, ℕ, arith, le_refl}
+use Rattle.std.proofs.Common.{arith, le_refl}
 use Rattle.streams.specs.Fronts.{Writes}
 use Rattle.lister.proofs.Writing.{of_read, loses_read}
 use Rattle.lister.proofs.listing.run.Goals as goal
