@@ -1,5 +1,5 @@
 -- What seal, open and test answer, and what they leave in their buffers. Assumes nothing.
-use Rattle.std.specs.Prelude.{◌≡◌, ℕ, ◌≤◌, cond, ◌&&◌, List, ◌++◌, length, drop, replicate, Some, None, Ok, Err, Option, Result, ◌==◌, nat_le}
+use Rattle.std.specs.Prelude.{◌≡◌, ℕ, ◌≤◌, cond, ◌&&◌, List, ◌++◌, length, take, drop, replicate, Some, None, Ok, Err, Option, Result, ◌==◌, nat_le}
 use Rattle.sealer.specs.declared.fault.SealFault.{SealFault}
 use Rattle.sealer.specs.declared.fault.SealFault.TheVariants.{KeyLength, NonceLength, TooLong, OutputShort, TagLength, TagMismatch}
 use Rattle.sealer.specs.Sealing.{Sealing}
@@ -74,7 +74,14 @@ abbrev pub AnswersAsOpen : Sealing → List ℕ → List ℕ → List ℕ → Li
 AnswersAsOpen S k n d c s t answer =
     scratch_bytes ≤ length s → (o : List ℕ) → length c ≤ length o → answer ≡ (opened S k n d c o t).answer
 
--- a message sealed and opened again, after seal's answer: what is opened is the message, if there is room for it
-abbrev pub opened_again : Result (Unit {0}) SealFault → List ℕ → List ℕ → Opened
-opened_again (Err e) m o = record { answer = Err e; out = o }
-opened_again (Ok _) m o = cond (nat_le (length m) (length o)) record { answer = Ok tt; out = m ++ drop (length m) o } record { answer = Err OutputShort; out = o }
+-- open after seal's answer: a refused seal is the answer, and leaves open's output
+abbrev pub opened_if_sealed : Result (Unit {0}) SealFault → List ℕ → Opened → Opened
+opened_if_sealed (Ok _) o done = done
+opened_if_sealed (Err e) o done = record { answer = Err e; out = o }
+
+-- seal, and then open of the ciphertext and the tag that it left, of key, nonce, data, message, the ciphertext's buffer, open's output
+-- and the tag's buffer
+abbrev pub sealed_then_opened : Sealing → List ℕ → List ℕ → List ℕ → List ℕ → List ℕ → List ℕ → List ℕ → Opened
+sealed_then_opened S k n d m c o t =
+    let s : Sealed = sealed S k n d m c t in
+    opened_if_sealed s.answer o (opened S k n d (take (length m) s.out) o s.tag)

@@ -149,7 +149,8 @@ module _ (p : Perm) (q : Plan) (laws : Sound p q) where
   pub spoc_claims : Bijective p → Claims p q
   spoc_claims bij = record {
     feeds_distinct = feeds_distinct p q laws;
-    one_mask_tells = one_mask_tells p bij q laws;
+    one_mask_tells = one_mask_tells p bij q;
+    starts_are_states = laws.begin_bytes;
     key_tells = key_tells p bij q laws;
     laws = spoc_laws bij;
   }

@@ -1,16 +1,16 @@
 -- What seal and open do past their questions, and what is sealed and opened again. Assumes nothing.
-use Rattle.std.proofs.Common.{◌≡◌, ℕ, Bool, true, false, cond, ◌&&◌, eqb, leb, List, ◌++◌, length, take, drop, replicate, Some, None, Ok, Err, Option, Result, sym, refl, ap, ◌∙◌, ap₂, arith}
+use Rattle.std.proofs.Common.{◌≡◌, ℕ, Bool, true, false, cond, ◌&&◌, eqb, leb, List, ◌++◌, ◌≤◌, length, take, drop, replicate, Some, None, Ok, Err, Option, Result, sym, refl, ap, ◌∙◌, ap₂, arith}
 use Rattle.std.specs.List.{flat_map}
 use Rattle.std.specs.Str.{bytes_eq}
 use Rattle.std.proofs.lemmas.List.{take_at, drop_at}
-use Rattle.std.proofs.lemmas.Bool.{eq-eqb, eqb-true}
+use Rattle.std.proofs.lemmas.Bool.{eq-eqb, eqb-true, le-leb}
 use Rattle.permutations.specs.Permutation.{Perm, Bijective}
 use Rattle.sealer.specs.declared.SealFault.{SealFault}
 use Rattle.sealer.specs.declared.SealFault.TheVariants.{KeyLength, NonceLength, TooLong, OutputShort, TagLength, TagMismatch}
 use Rattle.spoc.specs.declared.mode.Way.TheVariants.{Seal, Open}
 use Rattle.spoc.specs.Feed.{blocks, masks, ended, run, pick, ciphers, tag, ciphertext, plains, plaintext, opens}
-use Rattle.sealer.specs.Seal.{first_no, Sealed, sealed_unless, Opened, opened_unless, judged, verdict, opened_again}
-use Rattle.spoc.specs.Seal.{sealed, opened, tested}
+use Rattle.sealer.specs.Seal.{first_no, Sealed, sealed_unless, opened_unless, judged, verdict, opened_if_sealed}
+use Rattle.spoc.specs.Seal.{sealed, opened, tested, sealed_then_opened}
 use Rattle.spoc.specs.Suite.{Plan, Sound, start}
 use Rattle.spoc.specs.Turns.{at_message, masks_of, opened_masks, output_of}
 use Rattle.spoc.proofs.Law.{spoc_laws}
@@ -92,12 +92,25 @@ module _ (p : Perm) (q : Plan) (k n d m o t k' n' s s' : List ℕ) (r w : ℕ)
 
 -- ---- sealed and opened again
 
-pub refused_again : (a : Result (Unit {0}) SealFault) (e : SealFault) (m o : List ℕ) → a ≡ Err e → ((opened_again a m o).answer ≡ Err e) × ((opened_again a m o).out ≡ o)
-refused_again a e m o h = (ap (λ z. (opened_again z m o).answer) h, ap (λ z. (opened_again z m o).out) h)
+pub ok_not : (e : SealFault) → ◌≡◌ {A = Result (Unit {0}) SealFault} (Err e) (Ok tt) → ⊥
+ok_not e h = let z : ◌≡◌ {A = ℕ} 0 1 = cc in omega arith
 
-module _ (p : Perm) (q : Plan) (laws : Sound p q) (bij : Bijective p) (k n d m s t : List ℕ) where
-  ok_not : (e : SealFault) → ◌≡◌ {A = Result (Unit {0}) SealFault} (Err e) (Ok tt) → ⊥
-  ok_not e h = let z : ◌≡◌ {A = ℕ} 0 1 = cc in omega arith
+module _ (p : Perm) (q : Plan) (k n d m s t : List ℕ) where
+  -- l is the message's length, c what seal left in the ciphertext's buffer, and t' in the tag's
+  pub opens_what_seal_left : (a : Result (Unit {0}) SealFault) (c t' o : List ℕ) (l : ℕ) → l ≡ length m → a ≡ Ok tt
+      → a ≡ (sealed p q k n d m s t).answer → c ≡ (sealed p q k n d m s t).out → t' ≡ (sealed p q k n d m s t).tag
+      → opened p q k n d (take l c) o t' ≡ sealed_then_opened p q k n d m s o t
+  opens_what_seal_left a c t' o l el ok ea ec et =
+      let again : List ℕ = take (length m) (sealed p q k n d m s t).out in
+      ap (λ z. opened p q k n d (take z c) o t') el
+      ∙ ap (λ z. opened p q k n d (take (length m) z) o t') ec
+      ∙ ap (λ z. opened p q k n d again o z) et
+      ∙ ap (λ z. opened_if_sealed z o (opened p q k n d again o (sealed p q k n d m s t).tag)) (sym ok ∙ ea)
+
+  pub opens_nothing : (a : Result (Unit {0}) SealFault) (e : SealFault) (o : List ℕ) → a ≡ Err e → a ≡ (sealed p q k n d m s t).answer
+      → sealed_then_opened p q k n d m s o t ≡ record { answer = Err e; out = o }
+  opens_nothing a e o refused ea =
+      ap (λ z. opened_if_sealed z o (opened p q k n d (take (length m) (sealed p q k n d m s t).out) o (sealed p q k n d m s t).tag)) (sym ea ∙ refused)
 
   accepted : (f : Option SealFault) (x : Sealed) → (sealed_unless f s t x).answer ≡ Ok tt → f ≡ None
   accepted None x h = refl
@@ -106,30 +119,23 @@ module _ (p : Perm) (q : Plan) (laws : Sound p q) (bij : Bijective p) (k n d m s
   pub none_refused : (sealed p q k n d m s t).answer ≡ Ok tt → first_no q.rate (length m) k n d m s t ≡ None
   none_refused h = accepted (first_no q.rate (length m) k n d m s t) _ h
 
-  chosen : (b : Bool) (o : List ℕ) → opened_unless (cond b None (Some OutputShort)) o (judged (Some m) (length m) (drop (length m) o))
-      ≡ cond b record { answer = Ok tt; out = m ++ drop (length m) o } record { answer = Err OutputShort; out = o }
-  chosen true o = refl
-  chosen false o = refl
-
-  -- c is what the ciphertext's buffer held, t' the tag
-  pub opens_again : (a : Result (Unit {0}) SealFault) (c t' o : List ℕ) (l : ℕ) → l ≡ length m → a ≡ Ok tt → a ≡ (sealed p q k n d m s t).answer → c ≡ (sealed p q k n d m s t).out → t' ≡ (sealed p q k n d m s t).tag
-      → opened p q k n d (take l c) o t' ≡ opened_again (sealed p q k n d m s t).answer m o
-  opens_again a c t' o l el ok ea ec et =
+  -- the round trip: where seal accepts and open has room, what is opened is the message
+  pub comes_back : Sound p q → Bijective p → (o : List ℕ) → (sealed p q k n d m s t).answer ≡ Ok tt → length m ≤ length o
+      → sealed_then_opened p q k n d m s o t ≡ record { answer = Ok tt; out = m ++ drop (length m) o }
+  comes_back laws bij o ok room =
       let law = spoc_laws p q laws bij in
-      let none : first_no q.rate (length m) k n d m s t ≡ None = none_refused (sym ea ∙ ok) in
-      let whole : sealed p q k n d m s t ≡ record { answer = Ok tt; out = ciphertext p q k n d m ++ drop (length m) s; tag = tag p q k n d m } =
-      ap (λ z. sealed_unless z s t record { answer = Ok tt; out = ciphertext p q k n d m ++ drop (length m) s; tag = tag p q k n d m }) none in
-      let all = passes (eqb (length k) 16) (eqb (length n) 16) (leb (length d) 65535 && leb (length m) 65535) (leb (length m) (length s)) (eqb (length t) q.rate) none in
+      let none : first_no q.rate (length m) k n d m s t ≡ None = none_refused ok in
       let y : List ℕ = ciphertext p q k n d m in
       let u : List ℕ = tag p q k n d m in
+      let whole : sealed p q k n d m s t ≡ record { answer = Ok tt; out = y ++ drop (length m) s; tag = u } =
+      ap (λ z. sealed_unless z s t record { answer = Ok tt; out = y ++ drop (length m) s; tag = u }) none in
+      let all = passes (eqb (length k) 16) (eqb (length n) 16) (leb (length d) 65535 && leb (length m) 65535) (leb (length m) (length s)) (eqb (length t) q.rate) none in
       let long : length y ≡ length m = law.ciphertext_length k n d m in
-      let text : take l c ≡ y = ap (λ z. take z c) el ∙ ap (take (length m)) (ec ∙ ap (λ z. z.out) whole) ∙ take_at y (drop (length m) s) (length m) long in
-      let passed : first_no q.rate (length y) k n d y o u ≡ cond (leb (length m) (length o)) None (Some OutputShort) =
-      rw (all.0, all.1, long, all.2, eq-eqb (length u) q.rate (law.tag_length k n d m)) refl in
-      ap (λ z. opened p q k n d z o t') text
-      ∙ ap (opened p q k n d y o) (et ∙ ap (λ z. z.tag) whole)
+      let text : take (length m) (y ++ drop (length m) s) ≡ y = take_at y (drop (length m) s) (length m) long in
+      let passed : first_no q.rate (length y) k n d y o u ≡ None =
+      rw (all.0, all.1, long, all.2, le-leb (length m) (length o) room, eq-eqb (length u) q.rate (law.tag_length k n d m)) refl in
+      ap (λ (z : Sealed). opened_if_sealed z.answer o (opened p q k n d (take (length m) z.out) o z.tag)) whole
+      ∙ ap (λ z. opened p q k n d z o u) text
       ∙ ap (λ z. opened_unless z o (judged (opens p q k n d y u) (length y) (drop (length y) o))) passed
-      ∙ ap (λ z. opened_unless (cond (leb (length m) (length o)) None (Some OutputShort)) o (judged z (length y) (drop (length y) o))) (law.opens_sealed k n d m)
-      ∙ ap (λ z. opened_unless (cond (leb (length m) (length o)) None (Some OutputShort)) o (judged (Some m) z (drop z o))) long
-      ∙ chosen (leb (length m) (length o)) o
-      ∙ ap (λ z. opened_again z m o) (sym ok ∙ ea)
+      ∙ ap (λ z. judged z (length y) (drop (length y) o)) (law.opens_sealed k n d m)
+      ∙ ap (λ z. record { answer = Ok tt; out = m ++ drop z o }) long

@@ -20,11 +20,15 @@ pub record DifferInOne (xs ys : List (List ℕ)) : Type 0 where
   pub right : ys ≡ front ++ other ∷ back
   pub differ : one ≢ other
 
--- two feeds that differ in exactly one mask lead one start to different end states
+-- two feeds that differ in exactly one mask lead one start to different end states, whatever state of so many bytes it is
 abbrev pub OneMaskTells : Perm → Plan → Type 0
 OneMaskTells p q =
-    (k v d m e n : List ℕ) → Bytes 16 k → Bytes 16 v → Octets d → Octets m → Octets e → Octets n
-    → DifferInOne (feed p q d m) (feed p q e n) → end_state p q (start p q k v) d m ≢ end_state p q (start p q k v) e n
+    (s d m e n : List ℕ) → Bytes p.size s → Octets d → Octets m → Octets e → Octets n
+    → DifferInOne (feed p q d m) (feed p q e n) → end_state p q s d m ≢ end_state p q s e n
+
+-- the start of a key and a nonce is such a state
+abbrev pub StartsAreStates : Perm → Plan → Type 0
+StartsAreStates p q = (k v : List ℕ) → Bytes 16 k → Bytes 16 v → Bytes p.size (start p q k v)
 
 -- one feed under one nonce leads two different keys to different end states
 abbrev pub KeyTells : Perm → Plan → Type 0
@@ -36,5 +40,6 @@ KeyTells p q =
 pub record Claims (p : Perm) (q : Plan) : Type 0 where
   pub feeds_distinct : FeedsDistinct p q
   pub one_mask_tells : OneMaskTells p q
+  pub starts_are_states : StartsAreStates p q
   pub key_tells : KeyTells p q
   pub laws : Laws (spoc p q)

@@ -128,11 +128,10 @@ module _ (p : Perm) (bij : Bijective p) where
       let same = forward_same (xors mid d.one) (xors mid d.other) (xored p.size mid d.one hm px.1.0) (xored p.size mid d.other hm py.1.0) after in
       d.differ (xors_mask mid d.one d.other (hm.size ∙ sym px.1.0.size) (hm.size ∙ sym py.1.0.size) same)
 
-  module _ (q : Plan) (laws : Sound p q) where
-    pub one_mask_tells : OneMaskTells p q
-    one_mask_tells k v d m e n hk hv hd hm he hn differ =
-        one_mask (start p q k v) (feed p q d m) (feed p q e n) (laws.begin_bytes k v hk hv) (feed_bytes p q d m hd hm) (feed_bytes p q e n he hn) differ
+  pub one_mask_tells : (q : Plan) → OneMaskTells p q
+  one_mask_tells q s d m e n hs hd hm he hn differ = one_mask s (feed p q d m) (feed p q e n) hs (feed_bytes p q d m hd hm) (feed_bytes p q e n he hn) differ
 
+  module _ (q : Plan) (laws : Sound p q) where
     pub key_tells : KeyTells p q
     key_tells k l v d m hk hl hv hd hm differ same =
         differ

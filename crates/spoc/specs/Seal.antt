@@ -16,3 +16,7 @@ opened p q = sealer.opened (spoc p q)
 -- test, of key, nonce, data, ciphertext, scratch and tag
 abbrev pub tested : Perm → Plan → List ℕ → List ℕ → List ℕ → List ℕ → List ℕ → List ℕ → sealer.Opened
 tested p q = sealer.tested (spoc p q)
+
+-- seal and then open of what it left, of key, nonce, data, message, the ciphertext's buffer, open's output and the tag's buffer
+abbrev pub sealed_then_opened : Perm → Plan → List ℕ → List ℕ → List ℕ → List ℕ → List ℕ → List ℕ → List ℕ → sealer.Opened
+sealed_then_opened p q = sealer.sealed_then_opened (spoc p q)

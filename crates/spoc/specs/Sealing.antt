@@ -1,5 +1,4 @@
 -- SpoC over a suite, as the layers above see it. Assumes nothing.
-use Rattle.std.specs.Prelude.{List, ℕ}
 use Rattle.permutations.specs.Permutation.{Perm}
 use Rattle.sealer.specs.Sealing.{Sealing}
 use Rattle.spoc.specs.Feed.{ciphertext, tag, opens}

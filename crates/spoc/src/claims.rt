@@ -1,17 +1,17 @@
-ghost use Rattle.std.specs.Prelude.{◌≡◌};
+ghost use Rattle.std.specs.Prelude.{◌≡◌, ◌≤◌, ◌++◌, length, drop, Ok};
 ghost use Rattle.spoc.specs.Claims.{Claims};
-ghost use Rattle.sealer.specs.Seal.{opened_again};
-ghost use Rattle.spoc.specs.Seal.{sealed};
+ghost use Rattle.spoc.specs.Seal.{sealed, sealed_then_opened};
 
 use crate::sealing::{open, seal};
 use crate::suite::Suite;
 use sealer::SealFault;
 
-// Seals a message into `ciphertext` and `tag`, and opens it again into `out`, which then begins with the message.
-//
-// For every suite, two different pairs of data and message never have the same feed; two feeds of equal length that
-// differ in exactly one mask lead one start to different end states; one feed under one nonce leads two different keys
-// to different end states; and a ciphertext and a tag open exactly when some message seals to them, as that message.
+/// Seals a message into `ciphertext` and `tag`, and opens into `out` what it sealed: a check of itself that a program can make.
+///
+/// The first fault, of seal or then of open, is the answer. `ciphertext` and `tag` hold what `seal` leaves in them; `out` holds what
+/// `open` leaves, and stays where seal refuses. Where seal accepts and `out` has room for the message, `out` begins with it.
+///
+/// The clause `claims` is that of `seal`.
 pub fn seal_and_open<const B: usize, S: Suite<B>>(
     key: &[u8],
     nonce: &[u8],
@@ -21,10 +21,18 @@ pub fn seal_and_open<const B: usize, S: Suite<B>>(
     out: &mut [u8],
     tag: &mut [u8],
 ) -> Result<(), SealFault>
-    ensures answer { result ≡ (opened_again (sealed S.Bijection.meaning S.SuiteModel.plan key.now nonce.now «data».now message.now ciphertext.old tag.old).answer message.now out.old).answer }
-    ensures ciphertext { ciphertext.new ≡ (sealed S.Bijection.meaning S.SuiteModel.plan key.now nonce.now «data».now message.now ciphertext.old tag.old).out }
-    ensures out { out.new ≡ (opened_again (sealed S.Bijection.meaning S.SuiteModel.plan key.now nonce.now «data».now message.now ciphertext.old tag.old).answer message.now out.old).out }
-    ensures tag { tag.new ≡ (sealed S.Bijection.meaning S.SuiteModel.plan key.now nonce.now «data».now message.now ciphertext.old tag.old).tag }
+    ensures ciphertext { ciphertext.new ≡ (sealed S.Bijection.meaning S.SuiteModel.plan
+        key.now nonce.now «data».now message.now ciphertext.old tag.old).out }
+    ensures tag { tag.new ≡ (sealed S.Bijection.meaning S.SuiteModel.plan
+        key.now nonce.now «data».now message.now ciphertext.old tag.old).tag }
+    ensures answer { result ≡ (sealed_then_opened S.Bijection.meaning S.SuiteModel.plan
+        key.now nonce.now «data».now message.now ciphertext.old out.old tag.old).answer }
+    ensures out { out.new ≡ (sealed_then_opened S.Bijection.meaning S.SuiteModel.plan
+        key.now nonce.now «data».now message.now ciphertext.old out.old tag.old).out }
+    ensures round_trip { (sealed S.Bijection.meaning S.SuiteModel.plan
+        key.now nonce.now «data».now message.now ciphertext.old tag.old).answer ≡ Ok tt
+        → length message.now ≤ length out.old
+        → (result ≡ Ok tt) × (out.new ≡ message.now ++ drop (length message.now) out.old) }
     ensures claims { Claims S.Bijection.meaning S.SuiteModel.plan }
 {
     seal::<B, S>(key, nonce, data, message, ciphertext, tag)?;

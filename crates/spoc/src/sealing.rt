@@ -1,5 +1,6 @@
 ghost use Rattle.std.specs.Prelude.{◌≡◌};
 ghost use Rattle.sealer.specs.Seal.{AnswersAsOpen};
+ghost use Rattle.spoc.specs.Claims.{Claims};
 ghost use Rattle.spoc.specs.Sealing.{spoc};
 ghost use Rattle.spoc.specs.Seal.{sealed, opened, tested};
 
@@ -19,6 +20,7 @@ pub fn seal<const B: usize, S: Suite<B>>(
     ensures answer { result ≡ (sealed S.Bijection.meaning S.SuiteModel.plan key.now nonce.now «data».now message.now out.old tag.old).answer }
     ensures out { out.new ≡ (sealed S.Bijection.meaning S.SuiteModel.plan key.now nonce.now «data».now message.now out.old tag.old).out }
     ensures tag { tag.new ≡ (sealed S.Bijection.meaning S.SuiteModel.plan key.now nonce.now «data».now message.now out.old tag.old).tag }
+    ensures claims { Claims S.Bijection.meaning S.SuiteModel.plan }
 {
     let (key, nonce) = ask_lengths(key, nonce, data, message, message.len(), out, tag, S::RATE)?;
     let mut duplex = Duplex::<B, S>::at_message(key, nonce, data, message);
