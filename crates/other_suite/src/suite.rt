@@ -35,14 +35,11 @@ impl Suite<23> for Ring {
         &MASKED_PLACES
     }
 
-    #[tactic(auto, using(crate::proofs::Fronts::front_loaded))]
-    fn start(key: &[u8; 16], nonce: &[u8; 16]) -> [u8; 23] {
-        let mut state = [0; 23];
+    fn start(state: &mut [u8; 23], key: &[u8; 16], nonce: &[u8; 16]) {
         state[..16].copy_from_slice(key);
         state[16..].copy_from_slice(&nonce[9..]);
-        xor_front(nonce, &mut state);
-        Ring::forward(&mut state);
-        state
+        xor_front(nonce, state);
+        Ring::forward(state);
     }
 
     ghost version_is = { refl };

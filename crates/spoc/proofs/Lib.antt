@@ -2,8 +2,8 @@ pub mod Blocks
 pub mod Compare
 pub mod Feeds
 pub mod Law
+pub mod Loads
 pub mod Masks
-pub mod Numbers
 pub mod Octet
 pub mod Opened
 pub mod Questions

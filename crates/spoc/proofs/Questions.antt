@@ -6,7 +6,7 @@ use Rattle.std.proofs.lemmas.List.{take_at, drop_at}
 use Rattle.std.proofs.lemmas.Bool.{eq-eqb, eqb-true, le-leb}
 use Rattle.permutations.specs.Permutation.{Perm, Bijective}
 use Rattle.sealer.specs.declared.SealFault.{SealFault}
-use Rattle.sealer.specs.declared.SealFault.TheVariants.{KeyLength, NonceLength, TooLong, OutputShort, TagLength, TagMismatch}
+use Rattle.sealer.specs.declared.SealFault.TheVariants.{KeyLength, NonceLength, TooLong, OutputShort, TagLength}
 use Rattle.spoc.specs.declared.mode.Way.TheVariants.{Seal, Open}
 use Rattle.spoc.specs.Feed.{blocks, masks, ended, run, pick, ciphers, tag, ciphertext, plains, plaintext, opens}
 use Rattle.sealer.specs.Seal.{first_no, Sealed, sealed_unless, opened_unless, judged, verdict, opened_if_sealed}
@@ -34,61 +34,59 @@ tag_long r w k n d m o t none =
     let all = passes (eqb (length k) 16) (eqb (length n) 16) (leb (length d) 65535 && leb (length m) 65535) (leb w (length o)) (eqb (length t) r) none in
     eqb-true (length t) r all.4
 
--- ---- past the questions
+-- ---- past the questions, over a state
 
--- r is the rate, w how many bytes the output is to have, and k' and n' are the key and the nonce as arrays; s is the state before the message, and s' the end state
-module _ (p : Perm) (q : Plan) (k n d m o t k' n' s s' : List ℕ) (r w : ℕ)
-    (er : r ≡ q.rate) (none : first_no r w k n d m o t ≡ None) (ek : k' ≡ k) (en : n' ≡ n) (es : s ≡ at_message p q (start p q k' n') d m) where
+-- s is the state before the message, or its ciphertext, and s' the end state
+module _ (p : Perm) (q : Plan) (k n d m s : List ℕ) (es : s ≡ at_message p q (start p q k n) d m) where
+  pub text_sealed : (o out' : List ℕ) → out' ≡ output_of Seal p q s m ++ drop (length m) o → out' ≡ ciphertext p q k n d m ++ drop (length m) o
+  text_sealed o out' eo = eo ∙ ap (λ z. z ++ drop (length m) o) (ap (λ z. ciphers p q z (blocks q.rate m) (ended q (masks p q 64 m))) es ∙ text_is p q k n d m)
+
+  pub tag_sealed : (s' t' : List ℕ) → s' ≡ run p s (masks_of Seal p q s m) → t' ≡ pick q.masked_places s' → t' ≡ tag p q k n d m
+  tag_sealed s' t' es' et = et ∙ ap (pick q.masked_places) (es' ∙ ap (λ z. run p z (ended q (masks p q 64 m))) es ∙ end_is p q (start p q k n) d m)
+
+  -- here m is the ciphertext
+  module _ (laws : Sound p q) where
+    pub text_opened : (o out' : List ℕ) → out' ≡ output_of Open p q s m ++ drop (length m) o → out' ≡ plaintext p q k n d m ++ drop (length m) o
+    text_opened o out' eo = eo ∙ ap (λ z. z ++ drop (length m) o) (ap (λ z. flat_map (λ x. x) (plains p q z (blocks q.rate m))) es ∙ plain_is p q k n d m)
+
+    pub rest_stays : (o out' : List ℕ) → out' ≡ output_of Open p q s m ++ drop (length m) o → drop (length m) out' ≡ drop (length m) o
+    rest_stays o out' eo = ap (drop (length m)) (text_opened o out' eo) ∙ drop_at (plaintext p q k n d m) (drop (length m) o) (length m) (plain_length p q laws k n d m)
+
+    -- what opens, by whether the tag agrees
+    pub opens_if : (t s' : List ℕ) (b : Bool) → s' ≡ run p s (masks_of Open p q s m) → b ≡ bytes_eq (pick q.masked_places s') t
+        → opens p q k n d m t ≡ cond b (Some (plaintext p q k n d m)) None
+    opens_if t s' b es' eb =
+        let end = es' ∙ ap (λ z. run p z (opened_masks p q z m)) es ∙ opened_end p q laws k n d m in
+        ap (λ z. cond (bytes_eq (pick q.masked_places z) t) (Some (plaintext p q k n d m)) None) (sym end)
+        ∙ ap (λ z. cond z (Some (plaintext p q k n d m)) None) (sym eb)
+
+-- ---- the questions are passed
+
+-- r is the rate, w how many bytes the output is to have, and k' and n' are the key and the nonce as arrays
+module _ (p : Perm) (q : Plan) (k n d m o t k' n' : List ℕ) (r w : ℕ) (er : r ≡ q.rate) (none : first_no r w k n d m o t ≡ None) (ek : k' ≡ k) (en : n' ≡ n) where
   none_said : (v : ℕ) → w ≡ v → first_no q.rate v k n d m o t ≡ None
   none_said v ew = ap (λ z. first_no z v k n d m o t) (sym er) ∙ ap (λ z. first_no r z k n d m o t) (sym ew) ∙ none
 
-  before_is : s ≡ at_message p q (start p q k n) d m
-  before_is = es ∙ ap (λ z. at_message p q (start p q z n') d m) ek ∙ ap (λ z. at_message p q (start p q k z) d m) en
-
-  pub sealed_is : w ≡ length m → (out' t' : List ℕ) → s' ≡ run p s (masks_of Seal p q s m) → out' ≡ output_of Seal p q s m ++ drop (length m) o → t' ≡ pick q.masked_places s'
+  pub sealed_is : w ≡ length m → (out' t' : List ℕ) → out' ≡ ciphertext p q k' n' d m ++ drop (length m) o → t' ≡ tag p q k' n' d m
       → sealed p q k n d m o t ≡ record { answer = Ok tt; out = out'; tag = t' }
-  sealed_is ew out' t' es' eo et =
-      let text : out' ≡ ciphertext p q k n d m ++ drop (length m) o =
-      eo ∙ ap (λ z. z ++ drop (length m) o) (ap (λ z. ciphers p q z (blocks q.rate m) (ended q (masks p q 64 m))) before_is ∙ text_is p q k n d m) in
-      let end : t' ≡ tag p q k n d m =
-      et ∙ ap (pick q.masked_places) (es' ∙ ap (λ z. run p z (ended q (masks p q 64 m))) before_is ∙ end_is p q (start p q k n) d m) in
+  sealed_is ew out' t' eo et =
       ap (λ z. sealed_unless z o t record { answer = Ok tt; out = ciphertext p q k n d m ++ drop (length m) o; tag = tag p q k n d m }) (none_said (length m) ew)
-      ∙ ap₂ (λ x y. record { answer = Ok tt; out = x; tag = y }) (sym text) (sym end)
+      ∙ ap₂ (λ x y. record { answer = Ok tt; out = x; tag = y })
+      (sym (eo ∙ ap₂ (λ x y. ciphertext p q x y d m ++ drop (length m) o) ek en))
+      (sym (et ∙ ap₂ (λ x y. tag p q x y d m) ek en))
 
-  -- here m is the ciphertext
-  module _ (laws : Sound p q) (b : Bool) (es' : s' ≡ run p s (masks_of Open p q s m)) (eb : b ≡ bytes_eq (pick q.masked_places s') t) where
-    asked : bytes_eq (tag p q k n d (plaintext p q k n d m)) t ≡ b
-    asked =
-        let end = es' ∙ ap (λ z. run p z (opened_masks p q z m)) before_is ∙ opened_end p q laws k n d m in
-        ap (λ z. bytes_eq (pick q.masked_places z) t) (sym end) ∙ sym eb
+  same_opens : opens p q k n d m t ≡ opens p q k' n' d m t
+  same_opens = ap₂ (λ x y. opens p q x y d m t) (sym ek) (sym en)
 
-    pub tested_is : w ≡ 16 → tested p q k n d m o t ≡ record { answer = verdict (cond b (Some (plaintext p q k n d m)) None); out = replicate 16 0 ++ drop 16 o }
-    tested_is ew =
-        ap (λ z. opened_unless z o (record { answer = verdict (opens p q k n d m t); out = replicate 16 0 ++ drop 16 o })) (none_said 16 ew)
-        ∙ ap (λ z. record { answer = verdict (cond z (Some (plaintext p q k n d m)) None); out = replicate 16 0 ++ drop 16 o }) asked
+  pub opened_is : w ≡ length m → opened p q k n d m o t ≡ judged (opens p q k' n' d m t) (length m) (drop (length m) o)
+  opened_is ew =
+      ap (λ z. opened_unless z o (judged (opens p q k n d m t) (length m) (drop (length m) o))) (none_said (length m) ew)
+      ∙ ap (λ z. judged z (length m) (drop (length m) o)) same_opens
 
-    module _ (ew : w ≡ length m) (out' : List ℕ) (eo : out' ≡ output_of Open p q s m ++ drop (length m) o) where
-      text_opened : out' ≡ plaintext p q k n d m ++ drop (length m) o
-      text_opened = eo ∙ ap (λ z. z ++ drop (length m) o) (ap (λ z. flat_map (λ x. x) (plains p q z (blocks q.rate m))) before_is ∙ plain_is p q k n d m)
-
-      judged_is : opened p q k n d m o t ≡ judged (cond b (Some (plaintext p q k n d m)) None) (length m) (drop (length m) o)
-      judged_is =
-          ap (λ z. opened_unless z o (judged (opens p q k n d m t) (length m) (drop (length m) o))) (none_said (length m) ew)
-          ∙ ap (λ z. judged (cond z (Some (plaintext p q k n d m)) None) (length m) (drop (length m) o)) asked
-
-      pub agreed : b ≡ true → opened p q k n d m o t ≡ record { answer = Ok tt; out = out' }
-      agreed e =
-          judged_is
-          ∙ ap (λ z. judged (cond z (Some (plaintext p q k n d m)) None) (length m) (drop (length m) o)) e
-          ∙ ap (λ z. record { answer = Ok tt; out = z }) (sym text_opened)
-
-      pub mismatched : b ≡ false → opened p q k n d m o t ≡ record { answer = Err TagMismatch; out = replicate (length m) 0 ++ drop (length m) out' }
-      mismatched e =
-          let rest : drop (length m) out' ≡ drop (length m) o =
-          ap (drop (length m)) text_opened ∙ drop_at (plaintext p q k n d m) (drop (length m) o) (length m) (plain_length p q laws k n d m) in
-          judged_is
-          ∙ ap (λ z. judged (cond z (Some (plaintext p q k n d m)) None) (length m) (drop (length m) o)) e
-          ∙ ap (λ z. record { answer = Err TagMismatch; out = replicate (length m) 0 ++ z }) (sym rest)
+  pub tested_is : w ≡ 16 → tested p q k n d m o t ≡ record { answer = verdict (opens p q k' n' d m t); out = replicate 16 0 ++ drop 16 o }
+  tested_is ew =
+      ap (λ z. opened_unless z o (record { answer = verdict (opens p q k n d m t); out = replicate 16 0 ++ drop 16 o })) (none_said 16 ew)
+      ∙ ap (λ z. record { answer = verdict z; out = replicate 16 0 ++ drop 16 o }) same_opens
 
 -- ---- sealed and opened again
 

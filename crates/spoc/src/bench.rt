@@ -2,7 +2,7 @@ ghost use Rattle.std.specs.Prelude.{refl};
 ghost use Rattle.spoc.specs.Bench.{bench_plan};
 ghost use Rattle.spoc.specs.Starts.{bench_sound};
 
-use crate::subblocks::{in_halves, state_of};
+use crate::loading::load_part;
 use crate::suite::{Suite, SuiteModel};
 use permutations::Bench;
 
@@ -34,10 +34,10 @@ impl Suite<32> for Bench {
         &MASKED_PLACES
     }
 
-    fn start(key: &[u8; 16], nonce: &[u8; 16]) -> [u8; 32] {
-        let k = in_halves(key);
-        let n = in_halves(nonce);
-        state_of([k.first, k.second, n.first, n.second])
+    // The key and then the nonce.
+    fn start(state: &mut [u8; 32], key: &[u8; 16], nonce: &[u8; 16]) {
+        load_part(state, 0, key);
+        load_part(state, 16, nonce);
     }
 
     ghost version_is = { refl };

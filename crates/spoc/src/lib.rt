@@ -5,11 +5,12 @@ mod bench;
 mod claims;
 mod constants;
 mod known;
+mod loading;
 mod mode;
+mod passes;
 mod sealing;
 mod spoc128;
 mod spoc64;
-mod subblocks;
 mod suite;
 
 pub use claims::seal_and_open;

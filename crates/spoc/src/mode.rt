@@ -1,4 +1,4 @@
-ghost use Rattle.std.specs.Prelude.{◌≡◌, ℕ, ◌<◌, ◌≤◌, ◌++◌, length, take, drop, if◌then◌else◌, bit_xor, slice_index, slice_set};
+ghost use Rattle.std.specs.Prelude.{◌≡◌, ℕ, ◌<◌, ◌≤◌, ◌++◌, length, take, drop, replicate, if◌then◌else◌, bit_xor, slice_index, slice_set};
 ghost use Rattle.std.specs.Str.{bytes_eq};
 ghost use Rattle.permutations.specs.Bytes.{xors};
 ghost use Rattle.spoc.specs.Feed.{padded, put, zero_mask, mask_with, masks, control_place, run, pick};
@@ -64,13 +64,19 @@ pub(crate) struct Duplex<const B: usize, S> {
 }
 
 impl<const B: usize, S: Suite<B>> Duplex<B, S> {
-    fn new(key: &[u8; 16], nonce: &[u8; 16]) -> Self
-        ensures { result.state ≡ start S.Bijection.meaning S.SuiteModel.plan key.now nonce.now }
-    {
+    // A state of zeros, in which a cipher can begin.
+    pub(crate) fn zeros() -> Self {
         Duplex {
-            state: S::start(key, nonce),
+            state: [0; B],
             suite: PhantomData,
         }
+    }
+
+    // Zeros where the state was.
+    fn wipe(&mut self)
+        ensures { self.new.state ≡ replicate B 0 }
+    {
+        self.state.fill(0);
     }
 
     pub(crate) fn forward(&mut self)
@@ -151,14 +157,13 @@ impl<const B: usize, S: Suite<B>> Duplex<B, S> {
         }
     }
 
-    // The state before the message, or its ciphertext: the zero mask and the data are in.
-    pub(crate) fn at_message(key: &[u8; 16], nonce: &[u8; 16], data: &[u8], message: &[u8]) -> Self
-        ensures { result.state ≡ at_message S.Bijection.meaning S.SuiteModel.plan (start S.Bijection.meaning S.SuiteModel.plan key.now nonce.now) «data».now message.now }
+    // The state before the message, or its ciphertext: key, nonce, the zero mask and the data are in.
+    pub(crate) fn begin(&mut self, key: &[u8; 16], nonce: &[u8; 16], data: &[u8], message: &[u8])
+        ensures { self.new.state ≡ at_message S.Bijection.meaning S.SuiteModel.plan (start S.Bijection.meaning S.SuiteModel.plan key.now nonce.now) «data».now message.now }
     {
-        let mut duplex = Self::new(key, nonce);
-        duplex.first_step(data.is_empty() & message.is_empty());
-        duplex.absorb_data(data, message.is_empty());
-        duplex
+        S::start(&mut self.state, key, nonce);
+        self.first_step(data.is_empty() & message.is_empty());
+        self.absorb_data(data, message.is_empty());
     }
 
     // A block xored with as many places. Written by index: what goes through an iter_mut in a zip is lost to a proof.
@@ -242,7 +247,7 @@ impl<const B: usize, S: Suite<B>> Duplex<B, S> {
     }
 
     // The masked places of the end state, written by index as in xor_places.
-    pub(crate) fn write_tag(&self, tag: &mut [u8])
+    fn write_tag(&self, tag: &mut [u8])
         requires { length tag.old ≡ S.SuiteModel.plan.rate }
         ensures { tag.new ≡ pick S.SuiteModel.plan.masked_places self.now.state }
     {
@@ -252,7 +257,7 @@ impl<const B: usize, S: Suite<B>> Duplex<B, S> {
     }
 
     // Whether the tag is that of the end state; every byte is compared, wherever the first difference is.
-    pub(crate) fn tag_agrees(&self, tag: &[u8]) -> bool
+    fn tag_agrees(&self, tag: &[u8]) -> bool
         requires { length tag.now ≡ S.SuiteModel.plan.rate }
         ensures { result ≡ bytes_eq (pick S.SuiteModel.plan.masked_places self.now.state) tag.now }
     {
@@ -261,5 +266,29 @@ impl<const B: usize, S: Suite<B>> Duplex<B, S> {
             difference |= self.state[*place] ^ *byte;
         }
         difference == 0
+    }
+
+    // The tag, and then zeros in the state. Each end is a call: were it inlined into seal, where the state is a local that nobody reads
+    // again, the compiler would leave out the zeros. A call that did nothing else would go too; this one writes the tag.
+    #[inline(never)]
+    pub(crate) fn finish(&mut self, tag: &mut [u8])
+        requires { length tag.old ≡ S.SuiteModel.plan.rate }
+        ensures tag { tag.new ≡ pick S.SuiteModel.plan.masked_places self.old.state }
+        ensures wiped { self.new.state ≡ replicate B 0 }
+    {
+        self.write_tag(tag);
+        self.wipe();
+    }
+
+    // Whether the tag is that of the end state, and then zeros in the state: a call as finish, which answers.
+    #[inline(never)]
+    pub(crate) fn verify(&mut self, tag: &[u8]) -> bool
+        requires { length tag.now ≡ S.SuiteModel.plan.rate }
+        ensures agrees { result ≡ bytes_eq (pick S.SuiteModel.plan.masked_places self.old.state) tag.now }
+        ensures wiped { self.new.state ≡ replicate B 0 }
+    {
+        let agrees = self.tag_agrees(tag);
+        self.wipe();
+        agrees
     }
 }

@@ -2,7 +2,7 @@ ghost use Rattle.std.specs.Prelude.{refl};
 ghost use Rattle.spoc.specs.Spoc128.{spoc_128};
 ghost use Rattle.spoc.specs.Starts.{sound_128};
 
-use crate::subblocks::{in_halves, state_of};
+use crate::loading::load_part;
 use crate::suite::{Suite, SuiteModel};
 use permutations::Light256;
 
@@ -38,11 +38,12 @@ impl Suite<32> for Light256 {
         &MASKED_PLACES
     }
 
-    // The halves that bench has too, in the order of this suite; which order is all that a start says.
-    fn start(key: &[u8; 16], nonce: &[u8; 16]) -> [u8; 32] {
-        let k = in_halves(key);
-        let n = in_halves(nonce);
-        state_of([n.first, k.first, n.second, k.second])
+    // A half of the nonce, a half of the key, and the other two.
+    fn start(state: &mut [u8; 32], key: &[u8; 16], nonce: &[u8; 16]) {
+        load_part(state, 0, &nonce[..8]);
+        load_part(state, 8, &key[..8]);
+        load_part(state, 16, &nonce[8..]);
+        load_part(state, 24, &key[8..]);
     }
 
     ghost version_is = { refl };

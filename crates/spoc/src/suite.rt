@@ -29,9 +29,9 @@ pub trait Suite<const B: usize>: Permutation<B> + SuiteModel {
     fn masked_places() -> &'static [usize]
         ensures { result.now ≡ Self.SuiteModel.plan.masked_places };
 
-    // The state that a key and a nonce start from.
-    fn start(key: &[u8; 16], nonce: &[u8; 16]) -> [u8; B]
-        ensures { result ≡ Self.SuiteModel.plan.begin Self.Bijection.meaning.forward key.now nonce.now };
+    /// Makes of a state, whatever it holds, the one that a key and a nonce start from. In place, so that no copy of it is left.
+    fn start(state: &mut [u8; B], key: &[u8; 16], nonce: &[u8; 16])
+        ensures { state.new ≡ Self.SuiteModel.plan.begin Self.Bijection.meaning.forward key.now nonce.now };
 
     ghost version_is: { VERSION ≡ Self.SuiteModel.plan.version };
 

@@ -10,8 +10,7 @@ pub returns : goal.returns
 returns g c =
     let asked = c.in_ok-key.ensures in
     let is = sealed_is g.S.Bijection.meaning g.S.SuiteModel.plan c.args.key.now c.args.nonce.now c.args.data.now c.args.message.now c.args.out.now c.args.tag.now
-    c.in_ok-key.key.now c.in_ok-key.nonce.now c.at_message-duplex.result.state c.crypt.new.self.state c.RATE.result _
-    (c.RATE.ensures ∙ g.met.S.Suite.rate_is) asked.0 asked.1 asked.2 c.at_message-duplex.ensures refl c.crypt.new.out c.write_tag.new.tag c.crypt.ensures.state c.crypt.ensures.out c.write_tag.ensures in
+    c.in_ok-key.key.now c.in_ok-key.nonce.now c.RATE.result _ (c.RATE.ensures ∙ g.met.S.Suite.rate_is) asked.0 asked.1 asked.2 refl _ _ c.seal.ensures.out c.seal.ensures.tag in
     record {
       answer = sym (ap (λ z. z.answer) is);
       out = sym (ap (λ z. z.out) is);

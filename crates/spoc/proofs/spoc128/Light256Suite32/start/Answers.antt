@@ -1,9 +1,6 @@
-use Rattle.std.proofs.Common.{take, drop, ◌∙◌, rules}
-use Rattle.std.proofs.ByRecursion.{All-from_get_or}
-use Rattle.permutations.specs.Permutation.{Bytes}
+use Rattle.std.proofs.Common.{◌≡◌, [], ◌++◌, take, drop, length, refl, ◌∙◌, append_assoc, rules}
 use Rattle.spoc.specs.Spoc128.{begin_128}
-use Rattle.spoc.proofs.Numbers.{halves_stored}
-use Rattle.spoc.specs.Parts.{first_half, second_half}
+use Rattle.spoc.proofs.Loads.{loads_part, loads_all, rest_is, rest_long}
 use Rattle.spoc.proofs.spoc128.Light256Suite32.start.Goals as goal
 
 pub returns : goal.returns
@@ -11,9 +8,12 @@ unfolding begin_128
 returns c =
     let k = c.args.key.now in
     let n = c.args.nonce.now in
-    let bk : Bytes 16 k = record { size = search rules; small = All-from_get_or _ k 0 (search rules) } in
-    let bn : Bytes 16 n = record { size = search rules; small = All-from_get_or _ n 0 (search rules) } in
-    let kh = c.in_halves-k.ensures in
-    let nh = c.in_halves-n.ensures in
-    c.state_of.ensures
-    ∙ halves_stored _ _ _ _ (take 8 n) (take 8 k) (drop 8 n) (drop 8 k) (first_half n bn) (first_half k bk) (second_half n bn) (second_half k bk) nh.first kh.first nh.second kh.second
+    let lk : length k ≡ 16 = search rules in
+    let ln : length n ≡ 16 = search rules in
+    let n0 = loads_part 0 8 8 c.args.state.now c.load_part.new.state [] _ (take 8 n) c.load_part.ensures refl (search rules) (search rules) refl in
+    let k0 = loads_part 8 8 16 c.load_part.new.state c.load_part-2.new.state _ _ (take 8 k) c.load_part-2.ensures n0 (search rules) (search rules) refl in
+    let n1 = loads_part 16 8 24 c.load_part-2.new.state c.load_part-3.new.state _ _ (drop 8 n) c.load_part-3.ensures k0 (rest_is 8 8 n ln) (rest_long 8 8 n ln) refl in
+    let k1 = loads_part 24 8 32 c.load_part-3.new.state c.load_part-4.new.state _ _ (drop 8 k) c.load_part-4.ensures n1 (rest_is 8 8 k lk) (rest_long 8 8 k lk) refl in
+    loads_all 32 c.load_part-4.new.state _ (search rules) k1
+    ∙ append_assoc (take 8 n ++ take 8 k) (drop 8 n) (drop 8 k)
+    ∙ append_assoc (take 8 n) (take 8 k) (drop 8 n ++ drop 8 k)

@@ -9,4 +9,4 @@ pub returns : goal.returns
 unfolding begin_64
 returns c =
     c.mask_nonce.ensures
-    ∙ ap (λ z. xors z (put masked_64 (drop 8 c.args.nonce.now) (replicate 24 0))) (c.forward.ensures ∙ ap light_192.forward c.load_state-state.ensures)
+    ∙ ap (λ z. xors z (put masked_64 (drop 8 c.args.nonce.now) (replicate 24 0))) (c.forward.ensures ∙ ap light_192.forward c.load_state.ensures)
