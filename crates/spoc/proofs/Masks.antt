@@ -1,7 +1,7 @@
 -- What the suite rule says of the places, and one more byte of a mask. Assumes nothing.
-use Rattle.std.proofs.Common.{◌≡◌, ℕ, zero, suc, ◌+◌, ◌<◌, ◌≤◌, Bool, true, false, cond, ◌≢◌, List, [], ◌∷◌, ◌++◌, length, get_or, take, drop, set, replicate, sym, refl, ap, ◌∙◌, le_of_suc-le-suc, arith}
+use Rattle.std.proofs.Common.{◌≡◌, ℕ, zero, suc, ◌+◌, ◌<◌, ◌≤◌, Bool, true, false, cond, ◌≢◌, List, [], ◌∷◌, ◌++◌, length, get_or, take, set, replicate, sym, refl, ap, ◌∙◌, arith}
 use lib.Bits.{bit_xor}
-use Rattle.std.proofs.lemmas.List.{length-append, length-take-le, length-replicate, take_more, get_or-take, get_or_append_left, get_or-append-add, take_at, take-take, set-get_or}
+use Rattle.std.proofs.lemmas.List.{length-append, length-take-le, length-replicate, take_more, take_all, get_or-take, get_or_append_left, get_or-append-add, take_at, get_or-set_other, set-get_or}
 use Rattle.permutations.specs.Bytes.{xors}
 use Rattle.permutations.specs.Permutation.{Perm}
 use Rattle.spoc.specs.Feed.{put, pick, zero_mask, padded, mask_with, control_place}
@@ -11,28 +11,38 @@ use Rattle.spoc.specs.Rows.{length_put, put_push, get_or_put_other, length_xors_
 
 -- ---- padding
 
-take_zeros : (r n : ℕ) → r ≤ n → take r (replicate {A = ℕ} n 0) ≡ replicate r 0
-take_zeros zero n h = refl
-take_zeros (suc r) zero h = absurd (omega arith)
-take_zeros (suc r) (suc n) h = ap (λ z. 0 ∷ z) (take_zeros r n (le_of_suc-le-suc h))
-
--- more zeros at the end change nothing
-pad_more : (r m n : ℕ) (x : List ℕ) → r ≤ m → r ≤ n → take r (x ++ 128 ∷ replicate m 0) ≡ take r (x ++ 128 ∷ replicate n 0)
-pad_more zero m n x h k = refl
-pad_more (suc r) m n [] h k = ap (λ z. 128 ∷ z) (take_zeros r m (omega arith) ∙ sym (take_zeros r n (omega arith)))
-pad_more (suc r) m n (a ∷ x) h k = ap (λ z. a ∷ z) (pad_more r m n x (omega arith) (omega arith))
-
-pub pad_front : (r : ℕ) (x : List ℕ) → r ≤ 16 → take r (padded 16 x) ≡ padded r x
-pad_front r x h = take-take r 16 (x ++ 128 ∷ replicate 16 0) h ∙ pad_more r 16 r x h (omega arith)
-
 pub pad_full : (r : ℕ) (x : List ℕ) → length x ≡ r → padded r x ≡ x
 pad_full r x e = take_at x (128 ∷ replicate r 0) r e
 
--- 80 written after a block, over zeros
-pub pad_made : (m n : ℕ) (x : List ℕ) → length x < m → m ≤ n → set (x ++ drop (length x) (replicate m 0)) (length x) 128 ≡ take m (x ++ 128 ∷ replicate n 0)
-pad_made zero n x h k = absurd (omega arith)
-pad_made (suc m) n [] h k = ap (λ z. 128 ∷ z) (sym (take_zeros m n (omega arith)))
-pad_made (suc m) n (a ∷ x) h k = ap (λ z. a ∷ z) (pad_made m n x (omega arith) (omega arith))
+-- zeros put where zeros stand
+put_zeros : (ps s : List ℕ) (r n : ℕ) → ((i : ℕ) → i < length ps → get_or s (get_or ps i 0) 0 ≡ 0) → put ps (take r (replicate n 0)) s ≡ s
+put_zeros [] s r n clear = refl
+put_zeros (p ∷ ps) s zero n clear = refl
+put_zeros (p ∷ ps) s (suc r) zero clear = refl
+put_zeros (p ∷ ps) s (suc r) (suc n) clear =
+    let same : set s p 0 ≡ s = ap (set s p) (sym (clear 0 (omega arith))) ∙ set-get_or s p 0 in
+    ap (put ps (take r (replicate n 0))) same ∙ put_zeros ps s r n (λ i l. clear (suc i) (omega arith))
+
+-- a padded block is the block and 80 after it, at places that differ and where zeros stand
+put_padded : (ps x s : List ℕ) (r n : ℕ) → length ps ≡ r → length x < r
+    → ((i j : ℕ) → i < length ps → j < length ps → get_or ps i 0 ≡ get_or ps j 0 → i ≡ j) → ((i : ℕ) → i < length ps → get_or s (get_or ps i 0) 0 ≡ 0)
+    → put ps (take r (x ++ 128 ∷ replicate n 0)) s ≡ set (put ps x s) (get_or ps (length x) 0) 128
+put_padded [] x s r n e h apart clear = absurd (omega arith)
+put_padded (p ∷ ps) x s zero n e h apart clear = absurd (omega arith)
+put_padded (p ∷ ps) [] s (suc r) n e h apart clear =
+    put_zeros ps (set s p 128) r n
+    (λ i l. get_or-set_other s p (get_or ps i 0) 128 0 (λ z. let same = apart (suc i) 0 (omega arith) (omega arith) z in omega (arith, same)) ∙ clear (suc i) (omega arith))
+put_padded (p ∷ ps) (a ∷ x) s (suc r) n e h apart clear =
+    put_padded ps x (set s p a) r n (omega arith) (omega arith)
+    (λ i j k l z. let same = apart (suc i) (suc j) (omega arith) (omega arith) z in omega (arith, same))
+    (λ i l. get_or-set_other s p (get_or ps i 0) a 0 (λ z. let same = apart (suc i) 0 (omega arith) (omega arith) z in omega (arith, same)) ∙ clear (suc i) (omega arith))
+
+-- bytes for the first places alone
+put_front : (ps vs s : List ℕ) → put (take (length vs) ps) vs s ≡ put ps vs s
+put_front [] [] s = refl
+put_front [] (v ∷ vs) s = refl
+put_front (p ∷ ps) [] s = refl
+put_front (p ∷ ps) (v ∷ vs) s = put_front ps vs (set s p v)
 
 -- ---- as many places as a block has bytes
 
@@ -85,28 +95,57 @@ module _ (p : Perm) (q : Plan) (laws : Sound p q) where
   length_so_far : (vs : List ℕ) (i : ℕ) → length (so_far vs i) ≡ p.size
   length_so_far vs i = length_put (take i q.masked_places) (take i vs) (zero_mask p) ∙ length-replicate p.size 0
 
-  absorb_next : (s vs : List ℕ) (i : ℕ) → length vs ≡ q.rate → i < q.rate
+  absorb_next : (s vs : List ℕ) (i : ℕ) → length vs ≤ q.rate → i < length vs
       → set (xors s (so_far vs i)) (get_or q.masked_places i 0) (bit_xor (get_or (xors s (so_far vs i)) (get_or q.masked_places i 0) 0) (get_or vs i 0)) ≡ xors s (so_far vs (i + 1))
   absorb_next s vs i wide h =
       let mi : i < length q.masked_places = omega (arith, laws.masked_count) in
-      let vi : i < length vs = omega arith in
       let lp = length-take-le i q.masked_places (omega arith) in
       let lv = length-take-le i vs (omega arith) in
       let clear : get_or (so_far vs i) (get_or q.masked_places i 0) 0 ≡ 0 =
       get_or_put_other (take i q.masked_places) (take i vs) (zero_mask p) (get_or q.masked_places i 0) 0
       (λ j k e.
       let j< : j < i = omega (arith, lp) in
-      let same = masked_apart i j h (omega arith) (e ∙ get_or-take i q.masked_places j 0 j<) in
+      let same = masked_apart i j (omega arith) (omega arith) (e ∙ get_or-take i q.masked_places j 0 j<) in
       omega (arith, same))
       ∙ get_or_zeros p.size (get_or q.masked_places i 0) in
       let pushed : so_far vs (i + 1) ≡ set (so_far vs i) (get_or q.masked_places i 0) (get_or vs i 0) =
-      rw (take_more q.masked_places i 0 mi, take_more vs i 0 vi) (put_push (take i q.masked_places) (take i vs) (get_or q.masked_places i 0) (get_or vs i 0) (zero_mask p) (lp ∙ sym lv)) in
-      xors_place s (so_far vs i) (get_or q.masked_places i 0) (get_or vs i 0) (omega (arith, length_so_far vs i, masked_inside i h)) clear ∙ ap (xors s) (sym pushed)
+      rw (take_more q.masked_places i 0 mi, take_more vs i 0 h) (put_push (take i q.masked_places) (take i vs) (get_or q.masked_places i 0) (get_or vs i 0) (zero_mask p) (lp ∙ sym lv)) in
+      xors_place s (so_far vs i) (get_or q.masked_places i 0) (get_or vs i 0) (omega (arith, length_so_far vs i, masked_inside i (omega arith))) clear ∙ ap (xors s) (sym pushed)
 
   -- t is what s has become, and the place and the byte of index i, o and b, are next
-  pub absorb_more : (s vs t : List ℕ) (i o b n : ℕ) → length vs ≡ q.rate → i < q.rate → o ≡ get_or q.masked_places i 0 → b ≡ get_or vs i 0 → n ≡ i + 1
+  pub absorb_more : (s vs t : List ℕ) (i o b n : ℕ) → length vs ≤ q.rate → i < length vs → o ≡ get_or q.masked_places i 0 → b ≡ get_or vs i 0 → n ≡ i + 1
       → t ≡ xors s (so_far vs i) → set t o (bit_xor (get_or t o 0) b) ≡ xors s (so_far vs n)
   absorb_more s vs t i o b n wide h eo eb en et = rw (et, eo, eb, en) (absorb_next s vs i wide h)
+
+  -- all of them in
+  pub so_far_all : (vs : List ℕ) (i : ℕ) → i ≡ length vs → so_far vs i ≡ put q.masked_places vs (zero_mask p)
+  so_far_all vs i e =
+      ap (so_far vs) e
+      ∙ ap (λ z. put (take (length vs) q.masked_places) z (zero_mask p)) (take_all (length vs) vs (omega arith))
+      ∙ put_front q.masked_places vs (zero_mask p)
+
+  -- 80 follows a short block, at the place o
+  pub absorb_pad : (s x t : List ℕ) (o : ℕ) → length x < q.rate → o ≡ get_or q.masked_places (length x) 0 → t ≡ xors s (put q.masked_places x (zero_mask p))
+      → set t o (bit_xor (get_or t o 0) 128) ≡ xors s (put q.masked_places (padded q.rate x) (zero_mask p))
+  absorb_pad s x t o h eo et =
+      let ps : List ℕ = q.masked_places in
+      let n : ℕ = length x in
+      let m : List ℕ = put ps x (zero_mask p) in
+      let wide : length m ≡ p.size = length_put ps x (zero_mask p) ∙ length-replicate p.size 0 in
+      let lp = length-take-le n ps (omega (arith, laws.masked_count)) in
+      let clear : get_or m (get_or ps n 0) 0 ≡ 0 =
+      ap (λ z. get_or z (get_or ps n 0) 0) (sym (put_front ps x (zero_mask p)))
+      ∙ get_or_put_other (take n ps) x (zero_mask p) (get_or ps n 0) 0
+      (λ j k e.
+      let j< : j < n = omega (arith, lp) in
+      let same = masked_apart n j (omega arith) (omega arith) (e ∙ get_or-take n ps j 0 j<) in
+      omega (arith, same))
+      ∙ get_or_zeros p.size (get_or ps n 0) in
+      let pad : put ps (padded q.rate x) (zero_mask p) ≡ set m (get_or ps n 0) 128 =
+      put_padded ps x (zero_mask p) q.rate q.rate laws.masked_count h
+      (λ i j k l. masked_apart i j (omega (arith, laws.masked_count)) (omega (arith, laws.masked_count)))
+      (λ i l. get_or_zeros p.size (get_or ps i 0)) in
+      rw (et, eo) (xors_place s m (get_or ps n 0) 128 (omega (arith, wide, masked_inside n h)) clear ∙ ap (xors s) (sym pad))
 
   pub length_padded : (x : List ℕ) → length (padded q.rate x) ≡ q.rate
   length_padded x = length-take-le q.rate (x ++ 128 ∷ replicate q.rate 0) (simp (length-append, length-replicate) (omega arith))

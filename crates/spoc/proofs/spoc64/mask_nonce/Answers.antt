@@ -23,4 +23,4 @@ loop-place-preserved c =
     let part : c.into_iter-place-iterator.result.b.rest.now ≡ take (length c.args.nonce.now - 8) vs = search rules in
     let second = part ∙ take_all (length c.args.nonce.now - 8) vs (omega (arith, nonce, wide)) in
     let t = zip_turn masked_64 vs xs _ _ c.next.new.self _ (search rules) second c.loop-place.yielded_by (c.in-Some.place, c.in-Some.byte) c.in-Some.is c.next.ensures.steps in
-    (search rules, search rules, absorb_more light_192 spoc_64 (sound_64 bijective_192) c.args.state.now vs c.loop-place.state (length xs) c.in-Some.place.now c.in-Some.byte.now _ wide (omega (arith, t.1, wide)) (t.2 0) (t.3 0) (length_push xs (c.in-Some.place, c.in-Some.byte)) c.loop-place.invariant.2)
+    (search rules, search rules, absorb_more light_192 spoc_64 (sound_64 bijective_192) c.args.state.now vs c.loop-place.state (length xs) c.in-Some.place.now c.in-Some.byte.now _ (omega (arith, wide)) (omega (arith, t.1, wide)) (t.2 0) (t.3 0) (length_push xs (c.in-Some.place, c.in-Some.byte)) c.loop-place.invariant.2)
