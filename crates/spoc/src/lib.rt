@@ -3,7 +3,6 @@
 
 mod bench;
 mod claims;
-mod constants;
 mod known;
 mod loading;
 mod mode;
@@ -14,7 +13,6 @@ mod spoc64;
 mod suite;
 
 pub use claims::seal_and_open;
-pub use constants::{rates, versions};
 pub use known::{BenchSealed, bench_example};
 pub use sealing::{open, seal, test};
 pub use spoc64::Spoc64;

@@ -88,6 +88,8 @@ impl<const B: usize, S: Suite<B>> Duplex<B, S> {
     }
 
     // A short block and 0x80 after it, xored into the masked places. The zeros that follow would change nothing: no padded copy is made.
+    // It is kept out of the loop's code, as xor_short.
+    #[inline(never)]
     fn mask_short(&mut self, block: &[u8])
         requires { length block.now < S.SuiteModel.plan.rate }
         ensures { self.new.state ≡ xors self.old.state (put S.SuiteModel.plan.masked_places (padded S.SuiteModel.plan.rate block.now) (zero_mask S.Bijection.meaning)) }
