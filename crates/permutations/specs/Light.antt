@@ -1,7 +1,6 @@
 -- sLiSCP-light on bytes: words of w bytes, boxes of u rounds, a table of constants. Assumes nothing.
 use Rattle.std.specs.Prelude.{ℕ, ◌*◌, List, [], ◌∷◌, take, slice_index}
 use Rattle.permutations.specs.declared.constants.StepConstants.{StepConstants}
-use Rattle.permutations.specs.declared.constants.TheConstants.{STEPS}
 use Rattle.permutations.specs.Bytes.{loads, stores}
 use Rattle.permutations.specs.Constants.{constants_192, constants_256}
 use Rattle.permutations.specs.Permutation.{Perm, perm_of}
@@ -36,7 +35,7 @@ backward_by w u ks s x = store_state w (unsteps (8 * w) u (take s ks) (load_stat
 
 -- 18 steps, under the rows of a table
 abbrev pub light : ℕ → ℕ → List StepConstants → Perm
-light w u ks = perm_of (w * 8) STEPS (forward_by w u ks) (backward_by w u ks)
+light w u ks = perm_of (w * 8) 18 (forward_by w u ks) (backward_by w u ks)
 
 -- sLiSCP-light-[192]: words of 24 bits, boxes of 6 rounds
 abbrev pub light_192 : Perm
