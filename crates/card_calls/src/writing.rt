@@ -81,8 +81,8 @@ pub struct Draft {
 }
 
 impl Draft {
-    /// Reads VERSION KEY NUMBER SIZE FILL, the words of a `write` after its first. An error is the first thing
-    /// that can't be read, from left to right, or `Memory`, where there is none.
+    /// Reads VERSION KEY NUMBER SIZE FILL, the words of a `write` after its first. An error is the first
+    /// thing that can't be read, from left to right, or `Memory`, where there is none.
     pub fn read(heap: Global, mut words: Words) -> Result<Draft, Unread>
         ensures { Holds draft_in result (draft_of (left words.entry)) }
     {
