@@ -99,11 +99,12 @@ fn walk_card<C: Sealer>(
 ///
 /// The clause `claims` says of every sealer, where w is its width:
 ///
-/// - Bytes read as a list of sheets exactly when writing that list gives those bytes.
+/// - Bytes read as a list of sheets exactly when writing that list gives those bytes: where they read so, on
+///   every medium that is long enough; and where some one medium gives them, they read so.
 /// - Every list whose sheets pass append's questions can be written, and then reads as that list.
 /// - No bytes read as two lists under one key.
-/// - What check passes is a list that was written: it reads as some list, and writing that list gives these
-///   bytes.
+/// - What check passes is a list that was written: it reads as some list, whose sheets pass append's
+///   questions, and writing that list gives these bytes.
 /// - A card of n sheets whose bodies have b bytes in all has 13 + n × (9 + w) + b + 9 + w bytes.
 /// - Check answers, and fills the card, as a check that opens each body into 4,096 bytes or more, whatever
 ///   these hold.

@@ -29,7 +29,7 @@ pub enum Call<'a> {
 pub struct Replayed<C> {
     /// How many calls were made, each of which has its answer in its slot.
     pub made: usize,
-    /// The card's length, after an accepted close.
+    /// The card's length in bytes, after an accepted close; else none.
     pub closed: Option<usize>,
     /// The writer, as the calls left it, so that a run can go on; none after an accepted close.
     pub writer: Option<Writer<C>>,
