@@ -17,6 +17,7 @@ pub enum PermutationCall {
     ForwardBy,
     /// `back-by`: the first steps, as many as are given, undone.
     BackBy,
+    /// `page`: the diffusion page of a state after a number of steps, with a buffer of the length given.
     Page,
 }
 
