@@ -18,7 +18,7 @@ use spoc_sealer::{BenchSealer, Spoc64Sealer, Spoc128Sealer};
 use std::alloc::{AllocError, Global};
 use std::fmt;
 
-// What a buffer is filled with before a call.
+/// What a buffer is filled with before a call, so that what the call left alone shows (docs/workbench.md).
 pub const FILLER: u8 = 0xA5;
 
 // Whether all bytes are this one.
@@ -38,8 +38,9 @@ fn is_wiped(scratch: &[u8]) -> bool
     }
 }
 
-/// What is said of a scratch after test or check, which was filled with `FILLER` before the call: `zero` where it has
-/// `SCRATCH_BYTES` or more, these are zero and the rest is as it was; `kept` where all of it is; `other` else.
+/// What is said of a scratch after test or check, which was filled with `FILLER` before the call
+/// (docs/workbench.md): `zero` where it has `SCRATCH_BYTES` or more, these are zero and the rest is as it
+/// was; `kept` where all of it is; `other` else.
 pub fn scratch_word(scratch: &[u8]) -> &'static str
     ensures { result.now ≡ scratch_word scratch.now }
 {
@@ -154,7 +155,8 @@ struct Given<'a> {
 impl<'a> Given<'a> {
     // Checks the card, and counts its sheets.
     fn count<C: Sealer>(&self, scratch: &mut [u8]) -> Result<usize, CardFault>
-        ensures answer { told result ≡ counted (check_of C.meaning self.now.key.now (length scratch.old) self.now.bytes.now) }
+        ensures answer { told result ≡ counted
+            (check_of C.meaning self.now.key.now (length scratch.old) self.now.bytes.now) }
         ensures scratch { scratch.new ≡ scratch_after self.now.key.now scratch.old }
     {
         let mut card = Card::empty();
@@ -165,7 +167,8 @@ impl<'a> Given<'a> {
     // The card, where check passes it.
     #[tactic(auto, using(crate::proofs::Readers::passed_is, crate::proofs::Readers::refused_is))]
     fn card<C: Sealer>(&self) -> Result<Card<'a>, CardFault>
-        ensures { and_then (told result) (λ c. Ok (shown c)) ≡ check_of C.meaning self.now.key.now 16 self.now.bytes.now }
+        ensures { and_then (told result) (λ c. Ok (shown c)) ≡
+            check_of C.meaning self.now.key.now 16 self.now.bytes.now }
     {
         let mut scratch = [0; SCRATCH_BYTES];
         let mut card = Card::empty();
@@ -175,8 +178,10 @@ impl<'a> Given<'a> {
 
     // Checks the card, and reads sheet i.
     fn read<C: Sealer>(&self, i: usize, buffer: &mut [u8]) -> Result<SheetHead, CardFault>
-        ensures answer { told result ≡ read_answer C.meaning (check_of C.meaning self.now.key.now 16 self.now.bytes.now) i buffer.old }
-        ensures buffer { buffer.new ≡ read_buffer C.meaning (check_of C.meaning self.now.key.now 16 self.now.bytes.now) i buffer.old }
+        ensures answer { told result ≡ read_answer C.meaning
+            (check_of C.meaning self.now.key.now 16 self.now.bytes.now) i buffer.old }
+        ensures buffer { buffer.new ≡ read_buffer C.meaning
+            (check_of C.meaning self.now.key.now 16 self.now.bytes.now) i buffer.old }
     {
         let card = self.card::<C>()?;
         sheet::<C>(&card, i, buffer)
@@ -194,7 +199,8 @@ impl<'a> Given<'a> {
     // Checks the card with a scratch of this length, and says what was answered.
     #[tactic(auto, unfolding(crate::specs::Readings::check_said))]
     fn answer_check<C: Sealer>(&self, heap: Global, room: usize) -> Result<String, AllocError>
-        ensures { IfOk result (λ t. string_bytes t ≡ check_said C.meaning self.now.key.now self.now.bytes.now room) }
+        ensures { IfOk result (λ t. string_bytes t ≡
+            check_said C.meaning self.now.key.now self.now.bytes.now room) }
     {
         let mut scratch = vec![in heap; FILLER; room]?;
         let answer = self.count::<C>(scratch.as_mut_slice());
@@ -209,7 +215,8 @@ impl<'a> Given<'a> {
         i: usize,
         room: usize,
     ) -> Result<String, AllocError>
-        ensures { IfOk result (λ t. string_bytes t ≡ sheet_said C.meaning self.now.key.now i room self.now.bytes.now) }
+        ensures { IfOk result (λ t. string_bytes t ≡
+            sheet_said C.meaning self.now.key.now i room self.now.bytes.now) }
     {
         let mut buffer = vec![in heap; FILLER; room]?;
         let answer = self.read::<C>(i, buffer.as_mut_slice());
@@ -224,7 +231,8 @@ impl<'a> Given<'a> {
     // Finds a cell, and says what was answered.
     #[tactic(auto, unfolding(crate::specs::Readings::find_said))]
     fn answer_find<C: Sealer>(&self, heap: Global, cell: u32) -> Result<String, AllocError>
-        ensures { IfOk result (λ t. string_bytes t ≡ find_said C.meaning self.now.key.now cell self.now.bytes.now) }
+        ensures { IfOk result (λ t. string_bytes t ≡
+            find_said C.meaning self.now.key.now cell self.now.bytes.now) }
     {
         Finding(self.find::<C>(cell)).to_string(heap)
     }
@@ -287,13 +295,19 @@ fn call_over<C: Sealer>(heap: Global, call: ReaderCall, words: Words) -> Result<
     }
 }
 
-// Reads a version, and makes a call of the reader over its sealer: a match on the name for each generic function, here and in the
-// workbench's call_sealer, as the sealer is a type. The answer of find that is printed is the only one that find's contract allows.
+/// Reads a version and the words after it, makes a call of the reader over the version's sealer, and answers
+/// the text that is printed, a line or more (docs/workbench.md).
+///
+/// A refusal of the call is part of the text. An error is the first thing that can't be read, from left to
+/// right, or `Memory`, where there is none. The answer of find that is printed is the only one that find's
+/// contract allows: the clause `found`.
 #[tactic(auto, using(crate::proofs::Finding::found_alone))]
 pub fn call_reader(heap: Global, call: ReaderCall, mut words: Words) -> Result<String, Unread>
     ensures text { Holds string_bytes result (reader_asked call (left words.entry)) }
     ensures found { FoundAlone }
 {
+    // A match on the name for each generic function, here and in the workbench's call_sealer, as the sealer
+    // is a type.
     match read_sealer(words.next_word()?)? {
         SealerName::Spoc64 => call_over::<Spoc64Sealer>(heap, call, words),
         SealerName::Spoc128 => call_over::<Spoc128Sealer>(heap, call, words),

@@ -66,7 +66,10 @@ fn read_append(heap: Global, mut words: Words) -> Result<Step, Unread>
     })
 }
 
-// A card that is being written: its sealer, what start is handed, and the calls after it.
+/// A card that is being written: its sealer, what start is handed, and the calls after it
+/// (docs/workbench.md).
+///
+/// Nothing is called before `answer`.
 #[derive(Drop)]
 pub struct Draft {
     sealer: SealerName,
@@ -78,7 +81,8 @@ pub struct Draft {
 }
 
 impl Draft {
-    // Reads VERSION KEY NUMBER SIZE FILL.
+    /// Reads VERSION KEY NUMBER SIZE FILL, the words of a `write` after its first. An error is the first
+    /// thing that can't be read, from left to right, or `Memory`, where there is none.
     pub fn read(heap: Global, mut words: Words) -> Result<Draft, Unread>
         ensures { Holds draft_in result (draft_of (left words.entry)) }
     {
@@ -100,23 +104,29 @@ impl Draft {
 
     // One step more. Where there is no memory for it, the draft stays as it was.
     fn add(&mut self, step: Step) -> Result<(), AllocFailed<Step>>
-        ensures { draft_in self.new ≡ (if is_ok result then with_call (draft_in self.old) (step_call step) else draft_in self.old) }
+        ensures { draft_in self.new ≡
+            (if is_ok result then with_call (draft_in self.old) (step_call step)
+            else draft_in self.old) }
     {
         self.steps.push(step)
     }
 
-    // Reads an append, and adds it.
+    /// Reads CELL EDITION BODY, the words of an `append` after its first, and adds the call. Where they can't
+    /// be read, or there is no memory, the draft stays as it was.
     pub fn append(&mut self, heap: Global, words: Words) -> Result<(), Unread>
-        ensures { Adds result (draft_in self.old) (draft_in self.new) (append_of (left words.entry)) }
+        ensures { Adds result (draft_in self.old) (draft_in self.new)
+            (append_of (left words.entry)) }
     {
         let step = read_append(heap, words)?;
         self.add(step)?;
         Ok(())
     }
 
-    // Adds a close, after which no word may follow.
+    /// Adds a `close`, after which no word may follow. Where one does, or there is no memory, the draft stays
+    /// as it was.
     pub fn close(&mut self, words: Words) -> Result<(), Unread>
-        ensures { Adds result (draft_in self.old) (draft_in self.new) (close_of (left words.entry)) }
+        ensures { Adds result (draft_in self.old) (draft_in self.new)
+            (close_of (left words.entry)) }
     {
         words.finish()?;
         self.add(Step::Close)?;
@@ -125,7 +135,9 @@ impl Draft {
 
     // Starts a card on the medium, makes its calls, and says what was answered.
     fn write_on<C: Sealer>(&self, heap: Global, medium: &mut [u8]) -> Result<String, AllocError>
-        ensures { IfOk result (λ t. ◌≡◌ {A = Written} record { lines = string_bytes t; medium = medium.new } (write_on C.meaning (draft_in self.now) medium.old)) }
+        ensures { IfOk result (λ t. ◌≡◌ {A = Written}
+            record { lines = string_bytes t; medium = medium.new }
+            (write_on C.meaning (draft_in self.now) medium.old)) }
     {
         let calls = calls_of(heap, self.steps.as_slice())?;
         match Writer::<C>::start(self.key.as_slice(), self.number, medium) {
@@ -146,7 +158,9 @@ impl Draft {
         WriteRun { lines, medium }.to_string(heap)
     }
 
-    // Writes the card on a new medium, and says what each call answered and what the medium holds then.
+    /// Writes the card on a new medium, and answers what is printed (docs/workbench.md): a line for start and
+    /// for each call that was made, and last what the medium holds. Only where there is no memory is the
+    /// answer an error.
     pub fn answer(&self, heap: Global) -> Result<String, AllocError>
         ensures { IfOk result (λ t. string_bytes t ≡ draft_text (draft_in self.now)) }
     {
@@ -196,7 +210,8 @@ fn lines_of(
     calls: &[Call<'_>],
     answers: &[Result<usize, CardFault>],
 ) -> Result<String, AllocError>
-    ensures { IfOk result (λ t. string_bytes t ≡ call_lines (map plain_call calls.now) (map told answers.now)) }
+    ensures { IfOk result (λ t. string_bytes t ≡
+        call_lines (map plain_call calls.now) (map told answers.now)) }
 {
     let mut text = String::new(heap);
     for (call, answer) in calls.iter().zip(answers) {
@@ -216,7 +231,10 @@ fn run_calls<C: Sealer>(
     medium: &mut [u8],
     calls: &[Call<'_>],
 ) -> Result<String, AllocError>
-    ensures { (w : Plain) → Stands writer medium.old w → IfOk result (λ t. (string_bytes t ≡ call_lines (map plain_call calls.now) (run_of C.meaning w (map plain_call calls.now)).answers) × (medium.new ≡ (run_of C.meaning w (map plain_call calls.now)).medium)) }
+    ensures { (w : Plain) → Stands writer medium.old w → IfOk result (λ t.
+        (string_bytes t ≡ call_lines (map plain_call calls.now)
+        (run_of C.meaning w (map plain_call calls.now)).answers)
+        × (medium.new ≡ (run_of C.meaning w (map plain_call calls.now)).medium)) }
 {
     let mut answers = vec![in heap; Ok(0); calls.len()]?;
     let made = replay(writer, medium, calls, answers.as_mut_slice()).made;

@@ -8,15 +8,19 @@ use sealer::SealFault;
 use std::error::Error;
 use std::fmt;
 
-// A fault, and the record and the place of a card that it is at.
+/// A fault, and the record and the place of a card that it is at (docs/cards.md).
 #[derive(Clone, Copy, Debug, PartialEq, Eq)]
 pub struct At<E> {
+    /// What was refused: a layer's own fault.
     pub fault: E,
+    /// The number of a record, counted from 0, the end record included.
     pub record: usize,
+    /// A place in the card, in bytes from its first, which is 0.
     pub place: usize,
 }
 
 impl<E> At<E> {
+    /// A fault at a record and a place, which are taken as they are.
     pub fn new(fault: E, record: usize, place: usize) -> At<E>
         ensures { result ≡ at fault «record» place }
     {
@@ -28,36 +32,37 @@ impl<E> At<E> {
     }
 }
 
-// A fault of the cipher, at a record and a place of a card.
+/// A fault of the cipher, layer 1, at a record and a place of a card.
 pub type SealedFault = At<SealFault>;
 
-// What is wrong with a record.
+/// What is wrong with a record: each refusal of layer 2, with its number (docs/cards.md).
 #[derive(Clone, Copy, Debug, PartialEq, Eq)]
 pub enum RecordNo {
-    // The body has more than 4,096 bytes.
+    /// The body has more than 4,096 bytes.
     BodyLong = 7,
-    // There are 512 sheets already.
+    /// There are 512 sheets already.
     SheetsFull = 8,
-    // The medium does not hold this record and an end record.
+    /// The medium does not hold this record and an end record after it.
     MediumShort = 9,
-    // Head, or body and tag, are not all there.
+    /// The head's 9 bytes, or body and tag, are not all there.
     Cut = 10,
-    // The kind is neither sheet nor end.
+    /// The kind is neither 1, a sheet, nor 2, an end.
     Kind = 13,
-    // The end record does not say how many sheets there are, or has an edition or a length.
+    /// The end record does not say how many sheets there are, or has an edition or a length.
     End = 14,
 }
 
 impl RecordNo {
-    // This no as the fault of a record.
+    /// This refusal as the fault of a record, of layer 2, at a record and a place.
     pub fn at(self, record: usize, place: usize) -> RecordFault
         ensures { result ≡ rec.Own (at self «record» place) }
     {
         RecordFault::Own(At::new(self, record, place))
     }
 
-    /// Where in a record the field begins that it is about: 7 for the length, 1 for the cell of an end record, 0 where the
-    /// record itself is meant (of `Cut`, its head; that body and tag are cut is told 9 on).
+    /// Where in a record the field begins that it is about, in bytes from the record's first: 7 for the
+    /// length of `BodyLong`, 1 for the cell of `End`, 0 where the record itself is meant (of `Cut`, its head;
+    /// that body and tag are cut is told 9 on).
     pub fn field(&self) -> usize
         ensures field { result ≡ field_place self.now }
         ensures within { result ≤ 7 }
@@ -77,32 +82,35 @@ impl RecordNo {
     }
 }
 
-// A fault of a record, or of the cipher under it, whole.
+/// A fault of a record, or of the cipher under it, whole (docs/cards.md).
 #[derive(Clone, Copy, Debug, PartialEq, Eq)]
 pub enum RecordFault {
+    /// The cipher refused: 1 to 6, of layer 1.
     Seal(SealedFault),
+    /// The record's own refusal, of layer 2.
     Own(At<RecordNo>),
 }
 
-// What is wrong with a card.
+/// What is wrong with a card: each refusal of layer 3, with its number (docs/cards.md).
 #[derive(Clone, Copy, Debug, PartialEq, Eq)]
 pub enum CardNo {
-    // The medium does not hold a header and an end record, or the end record.
+    /// The medium does not hold a header and an end record, for start, or the end record, for close.
     MediumShort = 9,
-    // The header is not all there.
+    /// The header's 13 bytes are not all there.
     Cut = 10,
-    // The mark is not SEA.
+    /// The mark is not SEA.
     Mark = 11,
-    // The version is not the sealer's, or of a checked card the width.
+    /// The version is not the sealer's, or of a checked card the width.
     Version = 12,
-    // Bytes are left after the end record.
+    /// Bytes are left after the end record.
     Left = 15,
-    // There is no sheet of that number.
+    /// There is no sheet of that number.
     Number = 16,
 }
 
 impl CardNo {
-    // This no as the fault of a card: as a record has it, each in its own layer, which a trait over both would take longer to say.
+    /// This refusal as the fault of a card, of layer 3, at a record and a place. `RecordNo` has the same: a
+    /// trait over both would take longer to say each layer.
     pub fn at(self, record: usize, place: usize) -> CardFault
         ensures { result ≡ card.Own (at self «record» place) }
     {
@@ -117,10 +125,15 @@ impl CardNo {
     }
 }
 
-// A fault of a card, or of a record of it, whole.
+/// A fault of a card, or of a record of it, whole: what start, append, close, check and sheet refuse with
+/// (docs/cards.md).
+///
+/// It is printed as `refused N layer Y record I place P`, with the four numbers that its methods answer.
 #[derive(Clone, Copy, Debug, PartialEq, Eq)]
 pub enum CardFault {
+    /// A record, or the cipher under it, refused: layer 2 or 1.
     Record(RecordFault),
+    /// The card's own refusal, of layer 3.
     Own(At<CardNo>),
 }
 
@@ -141,14 +154,15 @@ impl From<RecordFault> for CardFault {
 }
 
 impl CardFault {
-    // A fault of the cipher, before any record.
+    /// A fault of the cipher before any record, at record 0 and place 0: so start and check answer 1 for
+    /// their key, and check 4 for its scratch.
     pub fn of_cipher(fault: SealFault) -> CardFault
         ensures { result ≡ card.Record (rec.Seal (at fault 0 0)) }
     {
         CardFault::from(RecordFault::from(At::new(fault, 0, 0)))
     }
 
-    // The number of the question that got a no.
+    /// The number of the question that got a no, 1 to 16 (docs/cards.md).
     pub fn number(&self) -> u8
         ensures { result ≡ (of_card self.now).number }
     {
@@ -159,7 +173,7 @@ impl CardFault {
         }
     }
 
-    // The layer that refuses: 1 the cipher, 2 a record, 3 the card.
+    /// The layer that refuses: 1 the cipher, 2 a record, 3 the card.
     pub fn layer(&self) -> u8
         ensures { result ≡ (of_card self.now).layer }
     {
@@ -170,7 +184,8 @@ impl CardFault {
         }
     }
 
-    // The record: in check the one reached, in append and close the writer's, in sheet the number given, else 0.
+    /// The record, counted from 0: in check the one reached, in append and close how many sheets were
+    /// accepted, in sheet the number given, else 0.
     pub fn record(&self) -> usize
         ensures { result ≡ (of_card self.now).record_no }
     {
@@ -181,7 +196,9 @@ impl CardFault {
         }
     }
 
-    // The place: in check where the part asked after begins, in append and close where the next record would begin, in sheet where the body begins or 0, else 0.
+    /// The place, in bytes from the card's first: in check where the part asked after begins, in append and
+    /// close where the next record would begin, in sheet where the body begins (4 and 6) or 0 (12 and 16),
+    /// else 0.
     pub fn place(&self) -> usize
         ensures { result ≡ (of_card self.now).place }
     {

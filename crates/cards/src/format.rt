@@ -1,15 +1,17 @@
 ghost use Rattle.std.specs.Prelude.{◌≡◌, ◌++◌};
 ghost use Rattle.cards.specs.Format.{nonce, header as header_of, head};
 
-// The letters that a card begins with.
+/// The letters that a card begins with (docs/cards.md).
 pub const MARK: &[u8; 3] = b"SEA";
 
-// How many bytes a header and a record's head have.
+/// How many bytes a card's header has: mark, version and card number.
 pub const HEADER_BYTES: usize = 13;
 
+/// How many bytes a record's head has: kind, cell, edition and length.
 pub const HEAD_BYTES: usize = 9;
 
-// The header of a card.
+/// The header of a card: the mark, the version and the card number, each with its highest byte first
+/// (docs/cards.md).
 pub fn make_header(version: u16, number: u64) -> [u8; HEADER_BYTES]
     ensures { result ≡ header_of version number }
 {
@@ -20,7 +22,10 @@ pub fn make_header(version: u16, number: u64) -> [u8; HEADER_BYTES]
     header
 }
 
-// The head of a record. Its kind is any byte, as Kind would ask more of a caller.
+/// The head of a record: kind, cell, edition and the body's length, each with its highest byte first
+/// (docs/cards.md).
+///
+/// It takes any values. Its kind is any byte, as `Kind` would ask more of a caller.
 pub fn make_head(kind: u8, cell: u32, edition: u16, length: u16) -> [u8; HEAD_BYTES]
     ensures { result ≡ head kind cell edition length }
 {
@@ -31,7 +36,8 @@ pub fn make_head(kind: u8, cell: u32, edition: u16, length: u16) -> [u8; HEAD_BY
     bytes
 }
 
-// The nonce of record n: the card number, which is the header's last eight bytes, and then n.
+/// The nonce of record n: the card number, which is the header's last eight bytes, and then n in eight bytes,
+/// its highest first (docs/cards.md).
 pub fn record_nonce(header: &[u8; HEADER_BYTES], n: u64) -> [u8; 16]
     ensures { result ≡ nonce header.now n }
 {
@@ -43,7 +49,7 @@ pub fn record_nonce(header: &[u8; HEADER_BYTES], n: u64) -> [u8; 16]
     bytes
 }
 
-// The data under which a record is sealed: the card's header and the record's head.
+/// The data under which a record is sealed: the card's header and then the record's head (docs/cards.md).
 pub fn record_data(header: &[u8; HEADER_BYTES], head: &[u8; HEAD_BYTES]) -> [u8; 22]
     ensures { result ≡ header.now ++ head.now }
 {

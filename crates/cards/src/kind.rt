@@ -3,10 +3,12 @@ ghost use Rattle.cards.specs.Kinds.{kind_byte, kind_read};
 
 use crate::fault::RecordNo;
 
-// The kind of a record, which is its head's first byte.
+/// The kind of a record, which is its head's first byte; any other byte is refused with 13 (docs/cards.md).
 #[derive(Clone, Copy, Debug, PartialEq, Eq)]
 pub enum Kind {
+    /// A sheet of a chart.
     Sheet = 1,
+    /// The end record, whose cell is how many sheets there are.
     End = 2,
 }
 

@@ -13,8 +13,13 @@ const KEY: [u8; 16] = [1, 1, 1, 1, 1, 1, 1, 1, 2, 2, 2, 2, 2, 2, 2, 2];
 
 const NUMBER: u64 = 0x0404_0404_0404_0404;
 
-// Writes the bench card without sheets, an example for pencil and paper, over the first 30 bytes of a medium, and answers its length.
-// The contract also has all bytes that are known beforehand, of permutations, cipher and cards, in one statement.
+/// Writes the bench card without sheets, an example for pencil and paper (docs/cards.md), over the first 30
+/// bytes of a medium, and answers its length.
+///
+/// A shorter medium is refused with 9 of layer 3, and stays; bytes beyond the 30 always stay.
+///
+/// The clause `known` has all bytes that are known beforehand, of permutations, cipher and cards, in one
+/// statement.
 #[tactic(auto, using(crate::proofs::Together::known_bytes))]
 pub fn bench_card(medium: &mut [u8]) -> Result<usize, CardFault>
     ensures answer { told result ≡ bare_answer medium.old }

@@ -35,7 +35,8 @@ fn unstep(state: &mut [u8; 32])
     state[0..24].copy_from_slice(&q[8..32]);
 }
 
-/// The bench permutation: a state of 32 bytes in four quarters, and one step, for pencil and paper (docs/permutations.md).
+/// The bench permutation: a state of 32 bytes in four quarters, and one step, for pencil and paper
+/// (docs/permutations.md).
 #[derive(Clone, Copy)]
 pub struct Bench;
 

@@ -1,13 +1,18 @@
-// The constants of one step: the round constants of its two boxes, and its two step constants.
+/// The constants of one step: the round constants of its two boxes, and its two step constants
+/// (docs/permutations.md).
 #[derive(Clone, Copy)]
 pub struct StepConstants {
+    /// The round constant of the box of subblock 1.
     pub rc0: u8,
+    /// The round constant of the box of subblock 3.
     pub rc1: u8,
+    /// The step constant that goes into the new subblock 3.
     pub sc0: u8,
+    /// The step constant that goes into the new subblock 1.
     pub sc1: u8,
 }
 
-// How many steps each sLiSCP-light permutation has.
+/// How many steps each sLiSCP-light permutation has (docs/permutations.md).
 pub const STEPS: usize = 18;
 
 // sLiSCP-light-[192]

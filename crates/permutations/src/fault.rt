@@ -36,7 +36,8 @@ impl fmt::Display for TooManySteps {
     }
 }
 
-/// Why a page is not written: each question with its number, in the order in which they are asked (docs/permutations.md).
+/// Why a page is not written: each question with its number, in the order in which they are asked
+/// (docs/permutations.md).
 #[derive(Clone, Copy, Debug, PartialEq, Eq)]
 pub enum PageFault {
     /// The permutation has not so many steps.

@@ -7,7 +7,9 @@ use crate::permutation::Permutation;
 /// The state after step 0 from zeros, of both sLiSCP-light permutations.
 #[derive(Clone, Copy)]
 pub struct FirstSteps {
+    /// The state of sLiSCP-light-[192].
     pub light192: [u8; 24],
+    /// The state of sLiSCP-light-[256].
     pub light256: [u8; 32],
 }
 

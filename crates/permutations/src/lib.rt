@@ -1,4 +1,5 @@
-// The permutations under the cipher: what a permutation is, sLiSCP-light-[192] and -[256], and the bench permutation.
+// The permutations under the cipher: what a permutation is, sLiSCP-light-[192] and -[256], and the bench
+// permutation.
 #![tactic(auto)]
 
 mod bench;

@@ -11,14 +11,15 @@ use crate::steps::State;
 use crate::width::{Bits24, Bits32, StateBytes, Width};
 use std::marker::PhantomData;
 
-/// sLiSCP-light over words of a width: `Light192` and `Light256`. Its full number of steps is 18 (docs/permutations.md).
+/// sLiSCP-light over words of a width: `Light192` and `Light256`. Its full number of steps is 18
+/// (docs/permutations.md).
 #[derive_where(Clone, Copy)]
 pub struct Light<W>(pub PhantomData<W>);
 
-/// sLiSCP-light-[192]: a state of 24 bytes.
+/// sLiSCP-light-[192]: a state of 24 bytes (docs/permutations.md).
 pub type Light192 = Light<Bits24>;
 
-/// sLiSCP-light-[256]: a state of 32 bytes.
+/// sLiSCP-light-[256]: a state of 32 bytes (docs/permutations.md).
 pub type Light256 = Light<Bits32>;
 
 // The constants of the first s steps, if there are so many.
@@ -31,7 +32,8 @@ fn constants_of<W: Width>(s: usize) -> Result<&'static [StepConstants], TooManyS
 impl<W: Width> Bijection for Light<W> {
     ghost meaning = { light W.BYTES W.ROUNDS W.table };
 
-    ghost bijective = { Loading.bijective W.BYTES W.ROUNDS W.table W.small W.some (le_trans W.most (lit≤ tt)) };
+    ghost bijective = { Loading.bijective W.BYTES W.ROUNDS W.table W.small W.some
+        (le_trans W.most (lit≤ tt)) };
 }
 
 impl<const B: usize, W: StateBytes<B>> Permutation<B> for Light<W> {

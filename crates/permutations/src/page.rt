@@ -99,7 +99,8 @@ fn line_of<const B: usize, P: Permutation<B>>(
     requires output { after.now ≡ P.Bijection.meaning.forward_by s state.now }
     requires byte { k < B }
     ensures text { result.text ≡ line_of (count_for P.Bijection.meaning s state.now) k }
-    ensures sum { result.sum ≡ sum_to (λ j. count_for P.Bijection.meaning s state.now (8 * k + j)) 8 }
+    ensures sum { result.sum ≡
+        sum_to (λ j. count_for P.Bijection.meaning s state.now (8 * k + j)) 8 }
     ensures bound { result.sum ≤ 4096 }
     ensures ascii { AllByRecursion (λ b. b < 128) result.text }
 {
@@ -147,12 +148,14 @@ fn write_lines<const B: usize, P: Permutation<B>>(
     page[LINE * B..].copy_from_slice(&sum_line(total));
 }
 
-/// Writes the diffusion page of a state after s steps to the front of `buffer`, and answers its length: 33 bytes for
-/// each byte of the state and 33 more, all ASCII. Line k has the counts for the bits of the state's byte k, the highest
-/// bit first: how many output bits change when that bit of the state is flipped. The last line has their sum.
+/// Writes the diffusion page of a state after s steps to the front of `buffer`, and answers its length: 33
+/// bytes for each byte of the state and 33 more, all ASCII. Line k has the counts for the bits of the state's
+/// byte k, the highest bit first: how many output bits change when that bit of the state is flipped. The last
+/// line has their sum.
 ///
-/// The state is only read. Two questions are asked, in this order: 21, is s at most the full number; 4, is the buffer
-/// as long as the page? After either the buffer stays as it was; what is beyond the page always stays (docs/permutations.md).
+/// The state is only read. Two questions are asked, in this order: 21, is s at most the full number; 4, is
+/// the buffer as long as the page? After either the buffer stays as it was; what is beyond the page always
+/// stays (docs/permutations.md).
 ///
 /// Of bench, the page by one step has 2 for each of the first 64 bits, 1 for each other, and 320 in all.
 pub fn diffusion_page<const B: usize, P: Permutation<B>>(

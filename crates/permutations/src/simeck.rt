@@ -7,8 +7,9 @@ use crate::width::{StateBytes, Width};
 use std::marker::{Model, PhantomData};
 use std::ops::BitXor;
 
-// A subblock of the state: two words, which keep to the width.
-// It is no Copy: a proof takes one that is used again for moved.
+/// A subblock of the state: two words, which keep to the width (docs/permutations.md).
+///
+/// It is no `Copy`: a proof takes one that is used again for moved.
 #[derive(Drop)]
 pub struct Subblock<W: Width> {
     pub(crate) left: u32,
@@ -68,7 +69,8 @@ impl<W: Width> Subblock<W> {
     where
         W: StateBytes<B>,
         requires { i < 4 }
-        ensures { result ≡ block (slice_index (loads W.BYTES 8 state.now) (2 * i)) (slice_index (loads W.BYTES 8 state.now) (2 * i + 1)) }
+        ensures { result ≡ block (slice_index (loads W.BYTES 8 state.now) (2 * i))
+            (slice_index (loads W.BYTES 8 state.now) (2 * i + 1)) }
     {
         Subblock {
             left: word_at::<B, W>(state, 2 * i),

@@ -7,7 +7,7 @@ use crate::simeck::{Subblock, store_word, two_boxes, two_unboxes};
 use crate::width::{StateBytes, Width};
 use std::marker::Model;
 
-// The state in words.
+/// The state in words: its four subblocks (docs/permutations.md).
 #[derive(Drop)]
 pub struct State<W: Width> {
     s0: Subblock<W>,

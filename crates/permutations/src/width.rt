@@ -10,19 +10,19 @@ ghost use Rattle.std.proofs.Common.{lit≤};
 
 use crate::constants::{CONSTANTS_192, CONSTANTS_256, STEPS, StepConstants};
 
-// A width of words, with the rounds of its box and the constants of each step.
+/// A width of words, with the rounds of its box and the constants of each step (docs/permutations.md).
 pub trait Width {
-    // The bytes of a word, at least one and at most four.
+    /// The bytes of a word, at least one and at most four.
     const BYTES: usize;
 
     ghost BYTES: { ℕ };
 
-    // The rounds of a box.
+    /// The rounds of a box, at most 8.
     const ROUNDS: u32;
 
     ghost ROUNDS: { ℕ };
 
-    // A word of ones.
+    /// A word of ones.
     const ONES: u32;
 
     ghost ONES: { ℕ };
@@ -37,11 +37,12 @@ pub trait Width {
     // Step constants are bytes.
     ghost small: { AllByRecursion Small table };
 
+    /// The constants of each step, the first first.
     fn constants() -> &'static [StepConstants; STEPS]
         ensures { result.now ≡ table };
 
-    // A word turned left. Each width has its own: the project's rule is that a word turns by the rotate method, and one of 24 bits needs a
-    // copy of itself beside it for that.
+    /// A word turned left by 1 to 8 bits. Each width has its own: the project's rule is that a word turns by
+    /// the rotate method, and one of 24 bits needs a copy of itself beside it for that.
     fn turn(x: u32, by: u32) -> u32
         requires { (x < 2 ^ (8 * BYTES)) × ((1 ≤ by) × (by ≤ 8)) }
         ensures { result ≡ turned (8 * BYTES) by x };
@@ -54,13 +55,13 @@ pub trait Width {
     ghost long: { length table ≡ STEPS };
 }
 
-// The width whose state has B bytes.
+/// The width whose state has B bytes: eight words.
 pub trait StateBytes<const B: usize>: Width {
     // B is the size that is meant.
     ghost sized: { B ≡ Self.Width.BYTES * 8 };
 }
 
-// The words of sLiSCP-light-[192].
+/// The words of sLiSCP-light-[192]: 24 bits, and boxes of 6 rounds (docs/permutations.md).
 pub struct Bits24;
 
 impl Width for Bits24 {
@@ -106,7 +107,7 @@ impl StateBytes<24> for Bits24 {
     ghost sized = { refl };
 }
 
-// The words of sLiSCP-light-[256].
+/// The words of sLiSCP-light-[256]: 32 bits, and boxes of 8 rounds (docs/permutations.md).
 pub struct Bits32;
 
 impl Width for Bits32 {

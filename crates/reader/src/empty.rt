@@ -5,7 +5,7 @@ ghost use Rattle.reader.specs.Cards.{shown};
 use crate::card::Card;
 
 impl<'a> Card<'a> {
-    // The empty card: no bytes and no sheets, and all else 0.
+    /// The empty card, for `check` to fill: no bytes and no sheets, and all else 0 (docs/cards.md).
     pub fn empty() -> Card<'a>
         ensures { shown result ≡ empty_card }
     {
@@ -18,7 +18,7 @@ impl<'a> Card<'a> {
         }
     }
 
-    // The number of sheets.
+    /// How many sheets the card has; on the empty card 0.
     pub fn count(&self) -> usize
         ensures { result ≡ (shown self.now).count }
     {

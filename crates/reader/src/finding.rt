@@ -5,8 +5,11 @@ ghost use Rattle.reader.specs.Cards.{shown};
 
 use crate::card::Card;
 
-// The number of the sheet with a cell and the highest edition, the first among equals, or none if the card has no such cell.
-// Where the card reads as a list of sheets, that is so of the list.
+/// The number of the sheet with a cell and the highest edition, the first among equals, or none if the card
+/// has no such cell (docs/cards.md).
+///
+/// It asks for no key and no sealer, opens nothing and refuses nothing; on the empty card the answer is none.
+/// Where the card reads as a list of sheets, that is so of the list.
 pub fn find(card: &Card<'_>, cell: u32) -> Option<usize>
     ensures finds { Finds (shown card.now) cell result }
     ensures tells { (S : Sealing) → FindTells S }

@@ -25,8 +25,9 @@ pub(crate) fn front<const N: usize>(bytes: &[u8]) -> &[u8; N]
 }
 
 impl CardKey<'_> {
-    // Opens a body of the record at the front into a buffer; a fault has the record's number, and a place. That the tag is as long as the
-    // width is asked here alone: a record's type says it of no tag, as it knows no sealer.
+    // Opens a body of the record at the front into a buffer; a fault has the record's number, and a place.
+    // That the tag is as long as the width is asked here alone: a record's type says it of no tag, as it
+    // knows no sealer.
     fn open<C: Sealer>(
         &self,
         rest: &Rest<'_>,
@@ -37,8 +38,18 @@ impl CardKey<'_> {
     ) -> Result<(), SealedFault>
         requires head { 9 ≤ length rest.now.bytes.now }
         requires lengths { (length body.now ≤ 65535) × (length tag.now ≡ C.meaning.width) }
-        ensures answer { passed result ≡ open_answer (C.meaning.opens self.now.key.now (nonce_of self.now.header.now rest.now.number) (self.now.header.now ++ head_of rest.now.bytes.now) body.now tag.now) (length body.now) (length out.old) rest.now.number place }
-        ensures output { out.new ≡ open_output (C.meaning.opens self.now.key.now (nonce_of self.now.header.now rest.now.number) (self.now.header.now ++ head_of rest.now.bytes.now) body.now tag.now) (length body.now) out.old }
+        ensures answer { passed result ≡ open_answer
+            (C.meaning.opens self.now.key.now
+            (nonce_of self.now.header.now rest.now.number)
+            (self.now.header.now ++ head_of rest.now.bytes.now)
+            body.now tag.now)
+            (length body.now) (length out.old) rest.now.number place }
+        ensures output { out.new ≡ open_output
+            (C.meaning.opens self.now.key.now
+            (nonce_of self.now.header.now rest.now.number)
+            (self.now.header.now ++ head_of rest.now.bytes.now)
+            body.now tag.now)
+            (length body.now) out.old }
     {
         let CardKey { key, header } = *self;
         let data = record_data(header, front::<HEAD_BYTES>(rest.bytes));
@@ -62,7 +73,12 @@ impl CardKey<'_> {
     ) -> Result<(), SealedFault>
         requires head { 9 ≤ length rest.now.bytes.now }
         requires lengths { (length body.now ≤ 65535) × (length tag.now ≡ C.meaning.width) }
-        ensures { passed result ≡ unseal (C.meaning.opens self.now.key.now (nonce_of self.now.header.now rest.now.number) (self.now.header.now ++ head_of rest.now.bytes.now) body.now tag.now) (λ _. tt) (fault 6 1 rest.now.number place) }
+        ensures { passed result ≡ unseal
+            (C.meaning.opens self.now.key.now
+            (nonce_of self.now.header.now rest.now.number)
+            (self.now.header.now ++ head_of rest.now.bytes.now)
+            body.now tag.now)
+            (λ _. tt) (fault 6 1 rest.now.number place) }
     {
         let CardKey { key, header } = *self;
         let data = record_data(header, front::<HEAD_BYTES>(rest.bytes));
@@ -81,7 +97,8 @@ impl CardKey<'_> {
         rest: &Rest<'a>,
         scratch: &mut [u8; SCRATCH_BYTES],
     ) -> Result<Record<'a>, RecordFault>
-        ensures { said result ≡ tried C.meaning self.now.key.now self.now.header.now rest.now.number rest.now.place rest.now.bytes.now }
+        ensures { said result ≡ tried C.meaning self.now.key.now self.now.header.now
+            rest.now.number rest.now.place rest.now.bytes.now }
     {
         let record = rest.parse(C::WIDTH)?;
         let (body, tag) = record.sealed();
@@ -102,8 +119,15 @@ impl CardKey<'_> {
         buffer: &mut [u8],
     ) -> Result<SheetHead, RecordFault>
         requires { 9 + length_of rest.now.bytes.now + C.meaning.width ≤ length rest.now.bytes.now }
-        ensures answer { recorded result ≡ titled (sheet_at C.meaning self.now.key.now self.now.header.now rest.now.number rest.now.place rest.now.bytes.now (length buffer.old)) }
-        ensures buffer { buffer.new ≡ open_output (C.meaning.opens self.now.key.now (nonce_of self.now.header.now rest.now.number) (self.now.header.now ++ head_of rest.now.bytes.now) (body_of rest.now.bytes.now) (tag_of C.meaning.width rest.now.bytes.now)) (length_of rest.now.bytes.now) buffer.old }
+        ensures answer { recorded result ≡ titled
+            (sheet_at C.meaning self.now.key.now self.now.header.now
+            rest.now.number rest.now.place rest.now.bytes.now (length buffer.old)) }
+        ensures buffer { buffer.new ≡ open_output
+            (C.meaning.opens self.now.key.now
+            (nonce_of self.now.header.now rest.now.number)
+            (self.now.header.now ++ head_of rest.now.bytes.now)
+            (body_of rest.now.bytes.now) (tag_of C.meaning.width rest.now.bytes.now))
+            (length_of rest.now.bytes.now) buffer.old }
     {
         let (body, tag) = rest.body_and_tag(C::WIDTH);
         self.open::<C>(rest, body, tag, rest.place + HEAD_BYTES, buffer)?;

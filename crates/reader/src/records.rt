@@ -11,7 +11,8 @@ pub(crate) struct Sheets<'c, 'a> {
     card: &'c Card<'a>,
     rest: Rest<'a>,
     ghost place: { rest.place ≡ place_of card.now.width card.now.bytes.now rest.number },
-    ghost bytes: { rest.bytes.now ≡ drop (place_of card.now.width card.now.bytes.now rest.number) card.now.bytes.now },
+    ghost bytes: { rest.bytes.now ≡
+        drop (place_of card.now.width card.now.bytes.now rest.number) card.now.bytes.now },
     ghost within: { rest.number ≤ card.now.count },
 }
 

@@ -1,11 +1,14 @@
 ghost use Rattle.std.specs.Prelude.{◌≡◌, ◌+◌, ◌<◌, ◌≤◌, ◌^◌, length};
 ghost use Rattle.reader.specs.Said.{of_part, sealed_body, sealed_tag};
 
-// What the head of a record says, but for its kind.
+/// What the head of a record says, but for its kind (docs/cards.md): of a sheet, what `sheet` answers.
 #[derive(Clone, Copy, Debug, PartialEq, Eq)]
 pub struct SheetHead {
+    /// The sheet's cell.
     pub cell: u32,
+    /// The sheet's edition.
     pub edition: u16,
+    /// How many bytes the body has: of a sheet of a checked card at most 4,096.
     pub length: usize,
 }
 
@@ -36,8 +39,8 @@ impl<'a> Record<'a> {
     }
 }
 
-// The rest of a card from a record on, with the record's number and place. That a head is all there is asked by parse and known of a
-// checked card, so three contracts ask it, and no field says it of every rest.
+// The rest of a card from a record on, with the record's number and place. That a head is all there is asked
+// by parse and known of a checked card, so three contracts ask it, and no field says it of every rest.
 #[derive(Clone, Copy)]
 pub(crate) struct Rest<'a> {
     pub(crate) bytes: &'a [u8],

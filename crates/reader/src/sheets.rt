@@ -15,23 +15,36 @@ impl<'a> Card<'a> {
     pub(crate) fn rest_at(&self, i: usize) -> Rest<'a>
         requires { i < self.now.count }
         ensures place { result.place ≡ place_of self.now.width self.now.bytes.now i }
-        ensures bytes { result.bytes.now ≡ drop (place_of self.now.width self.now.bytes.now i) self.now.bytes.now }
+        ensures bytes { result.bytes.now ≡
+            drop (place_of self.now.width self.now.bytes.now i) self.now.bytes.now }
         ensures number { result.number ≡ i }
     {
         self.sheets().nth(i).unwrap()
     }
 }
 
-// Puts the body of sheet i at the front of the buffer, and answers its cell, its edition and its length.
-// The sealer that passed check never finds that the tag disagrees.
+/// Opens sheet i of a card: its body goes to the front of the buffer, and its cell, edition and length are
+/// the answer (docs/cards.md).
+///
+/// Are the card's version and width the sealer's (12)? Is i below the count (16)? Is the buffer at least as
+/// long as the body (4)? Does the tag agree (6)? The first no is the answer; its record is i, however large,
+/// and its place is 0 for 12 and 16, and where the body begins for 4 and 6.
+///
+/// After 12, 16 and 4 the buffer is as it was; after 6 its first bytes, as many as the body has, are zero;
+/// bytes beyond the body's length always stay.
+///
+/// The sealer that passed check never finds that the tag disagrees (6). The empty card is always refused
+/// with 12.
 pub fn sheet<C: Sealer>(
     card: &Card<'_>,
     i: usize,
     buffer: &mut [u8],
 ) -> Result<SheetHead, CardFault>
-    ensures answer { told result ≡ headed (sheet_drawn C.meaning (shown card.now) i buffer.old).answer }
+    ensures answer { told result ≡
+        headed (sheet_drawn C.meaning (shown card.now) i buffer.old).answer }
     ensures buffer { buffer.new ≡ (sheet_drawn C.meaning (shown card.now) i buffer.old).buffer }
-    ensures agrees { (key : List ℕ) (scratch : ℕ) (bytes : List ℕ) → check_of C.meaning key scratch bytes ≡ Ok (shown card.now) → NoMismatch (told result) }
+    ensures agrees { (key : List ℕ) (scratch : ℕ) (bytes : List ℕ) →
+        check_of C.meaning key scratch bytes ≡ Ok (shown card.now) → NoMismatch (told result) }
 {
     if card.version != C::VERSION || card.width != C::WIDTH {
         return Err(CardNo::Version.at(i, 0));

@@ -37,7 +37,11 @@ fn read_pairs(heap: Global, digits: &[u8]) -> Result<Vec<u8>, Unread>
     Ok(bytes)
 }
 
-// Reads hexadecimal pairs, in either case, and - for no bytes. Bytes that are printed read back.
+/// Reads hexadecimal pairs, in either case, and `-` for no bytes (docs/workbench.md). Bytes that are printed
+/// read back: the clause `law`.
+///
+/// An empty word is `EmptyWord`; else pair by pair the first no is the answer: `WrongDigit`, or `OddDigits`
+/// where one digit is left, whatever it is. Where there is no memory for the bytes, the answer is `Memory`.
 #[tactic(auto, using(crate::proofs::Back::reads_back))]
 pub fn read_bytes(heap: Global, word: &[u8]) -> Result<Vec<u8>, Unread>
     ensures bytes { Holds vec_items result (bytes_of word.now) }
@@ -50,7 +54,8 @@ pub fn read_bytes(heap: Global, word: &[u8]) -> Result<Vec<u8>, Unread>
     }
 }
 
-// Reads one byte.
+/// Reads one byte, a pair of hexadecimal digits (docs/workbench.md). It refuses what `read_bytes` does, and
+/// another number of bytes than one as `NotOneByte`.
 pub fn read_byte(heap: Global, word: &[u8]) -> Result<u8, Unread>
     ensures { Holds (λ b. b) result (byte_alone (bytes_of word.now)) }
 {
@@ -60,7 +65,7 @@ pub fn read_byte(heap: Global, word: &[u8]) -> Result<u8, Unread>
     }
 }
 
-// Bytes as they are printed: pairs of capitals, and - for none.
+/// Bytes as they are printed: pairs of hexadecimal digits in capitals, and `-` for none (docs/workbench.md).
 #[derive(Clone, Copy)]
 pub struct Hex<'a>(pub &'a [u8]);
 

@@ -7,47 +7,72 @@ use std::fmt;
 /// A call on a state of a permutation (docs/workbench.md).
 #[derive(Clone, Copy, Debug, PartialEq, Eq)]
 pub enum PermutationCall {
+    /// `forward`: all steps.
     Forward,
+    /// `back`: all steps undone.
     Back,
+    /// `trace`: the state after each number of steps.
     Trace,
+    /// `forward-by`: the first steps, as many as are given.
     ForwardBy,
+    /// `back-by`: the first steps, as many as are given, undone.
     BackBy,
+    /// `page`: the diffusion page of a state after a number of steps, with a buffer of the length given.
     Page,
 }
 
-// A call of the cipher.
+/// A call of the cipher (docs/workbench.md).
 #[derive(Clone, Copy, Debug, PartialEq, Eq)]
 pub enum CipherCall {
+    /// `seal`, with an output as long as the message and room for the tag.
     Seal,
+    /// `open`, with an output as long as the ciphertext.
     Open,
+    /// `seal-into`: `seal` with an output and a tag of the lengths given, which are shown.
     SealInto,
+    /// `open-into`: `open` with an output of the length given, which is shown.
     OpenInto,
+    /// `test`, with a scratch of the length given.
     Test,
 }
 
-// A call of the reader.
+/// A call of the reader (docs/workbench.md).
 #[derive(Clone, Copy, Debug, PartialEq, Eq)]
 pub enum ReaderCall {
+    /// `check`.
     Check,
+    /// `sheet`, after a check.
     Sheet,
+    /// `find`, after a check.
     Find,
 }
 
-// A line of a card that is being written.
+/// A line of a card that is being written (docs/workbench.md).
 #[derive(Clone, Copy, Debug, PartialEq, Eq)]
 pub enum WriterCall {
+    /// `append`.
     Append,
+    /// `close`.
     Close,
+    /// `end`: the card is written, and its answers are printed.
     End,
 }
 
-// What a line asks for: a call, a card to be written, or a line of that card. Calls of one kind begin with the same words.
+/// What a line asks for, by its first word: a call, a card to be written, or a line of that card
+/// (docs/workbench.md). Calls of one kind begin with the same words.
+///
+/// Any other word is refused as `Unread::UnknownCall`.
 #[derive(Clone, Copy, Debug, PartialEq, Eq)]
 pub enum CallName {
+    /// A call on a state of a permutation.
     Permutation(PermutationCall),
+    /// A call of the cipher.
     Cipher(CipherCall),
+    /// A call of the reader of cards.
     Reader(ReaderCall),
+    /// `write`: a card is to be written.
     Write,
+    /// A line of a card that is being written.
     Writer(WriterCall),
 }
 
@@ -82,11 +107,15 @@ impl TryFrom<&[u8]> for CallName {
     }
 }
 
-// Which permutation a call is about.
+/// Which permutation a call is about (docs/workbench.md); any other word is refused as
+/// `Unread::UnknownPermutation`.
 #[derive(Clone, Copy, Debug, PartialEq, Eq)]
 pub enum PermutationName {
+    /// `192`: sLiSCP-light-[192].
     Light192,
+    /// `256`: sLiSCP-light-[256].
     Light256,
+    /// `bench`: the bench permutation.
     Bench,
 }
 

@@ -44,15 +44,20 @@ fn read_digits(word: &[u8], too_large: Unread) -> Result<u64, Unread>
     value_of(word).ok_or(too_large)
 }
 
-// Reads a decimal number of at most 64 bits.
+/// Reads a decimal number of at most 64 bits; zeros in front don't count (docs/workbench.md).
+///
+/// An empty word is `EmptyWord`, one that has anything but digits `NotANumber`, and a larger number
+/// `NumberTooLarge`.
 pub fn read_number(word: &[u8]) -> Result<u64, Unread>
     ensures { result ≡ number_of word.now }
 {
     read_digits(word, Unread::NumberTooLarge)
 }
 
-// Reads a cell, a number of at most 32 bits. Not one function with read_edition: over any TryFrom<u64> the bits would have to be a
-// law of a trait.
+/// Reads a cell, a number of at most 32 bits (docs/workbench.md): as `read_number`, but a larger number is
+/// `CellTooLarge`.
+///
+/// Not one function with `read_edition`: over any `TryFrom<u64>` the bits would have to be a law of a trait.
 pub fn read_cell(word: &[u8]) -> Result<u32, Unread>
     ensures { result ≡ cell_of word.now }
 {
@@ -60,7 +65,8 @@ pub fn read_cell(word: &[u8]) -> Result<u32, Unread>
     u32::try_from(number).ok().ok_or(Unread::CellTooLarge)
 }
 
-// Reads an edition, a number of at most 16 bits.
+/// Reads an edition, a number of at most 16 bits (docs/workbench.md): as `read_number`, but a larger number
+/// is `EditionTooLarge`.
 pub fn read_edition(word: &[u8]) -> Result<u16, Unread>
     ensures { result ≡ edition_of word.now }
 {

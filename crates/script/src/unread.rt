@@ -6,29 +6,46 @@ use crate::names::PermutationName;
 use std::alloc::{AllocError, AllocFailed};
 use std::fmt;
 
-// Why a line can't be read.
+/// Why a line can't be read: each reason, which is printed after `unread: ` (docs/workbench.md).
 #[derive(Clone, Copy, Debug, PartialEq, Eq)]
 pub enum Unread {
+    /// The first word is no call.
     UnknownCall,
+    /// No permutation has that name.
     UnknownPermutation,
+    /// The version is a number, but no sealer's.
     UnknownVersion,
+    /// A word is wanted, and the line has ended.
     TooFewWords,
+    /// All wanted words are read, and something follows.
     TooManyWords,
+    /// A word is wanted, and an empty one is found.
     EmptyWord,
+    /// In bytes, one digit is left after whole pairs.
     OddDigits,
+    /// In bytes, a pair has what is no hexadecimal digit.
     WrongDigit,
+    /// In a number, something is no decimal digit.
     NotANumber,
+    /// A number has more than 64 bits.
     NumberTooLarge,
+    /// A cell has more than 32 bits.
     CellTooLarge,
+    /// An edition has more than 16 bits.
     EditionTooLarge,
+    /// Another number of bytes than one is given.
     NotOneByte,
+    /// A state of a permutation has `expected` bytes, and `found` are given.
     StateLength {
         of: PermutationName,
         expected: usize,
         found: usize,
     },
+    /// A line of a card is asked for where no card is being written.
     NoCard,
+    /// Another call is asked for while a card is being written.
     CardOpen,
+    /// There is no memory for what the line asks.
     Memory,
 }
 

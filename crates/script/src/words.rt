@@ -11,8 +11,8 @@ fn first_space(line: &[u8]) -> Option<usize>
     line.iter().position(|b| *b == b' ')
 }
 
-// The first word of a line, and what follows the space after it. No split or splitn: those don't hand out what is left, which finish
-// asks after, and a line that ends in a space has a last word that is empty.
+// The first word of a line, and what follows the space after it. No split or splitn: those don't hand out
+// what is left, which finish asks after, and a line that ends in a space has a last word that is empty.
 #[tactic(auto, using(crate::proofs::Splitting::split_there, crate::proofs::Splitting::split_nowhere))]
 fn split_word(line: &[u8]) -> (&[u8], Option<&[u8]>)
     ensures { words line.now ≡ result.0.now ∷ words_in (option_map (λ x. x.now) result.1) }
@@ -23,20 +23,24 @@ fn split_word(line: &[u8]) -> (&[u8], Option<&[u8]>)
     }
 }
 
-// The words of a line that are not read yet: the line is split at each space.
+/// The words of a line that are not read yet: the line is split at each space (docs/workbench.md).
 #[derive(Drop)]
 pub struct Words<'a> {
     rest: Option<&'a [u8]>,
 }
 
 impl<'a> Words<'a> {
+    /// All words of a line: one more than it has spaces, some of them perhaps empty.
     pub fn new(line: &'a [u8]) -> Words<'a>
         ensures { left result ≡ words line.now }
     {
         Words { rest: Some(line) }
     }
 
-    // Reads the next word, which is not empty.
+    /// Reads the next word, which is not empty.
+    ///
+    /// Where the line has ended it is refused as `TooFewWords`, and nothing changes; an empty word is refused
+    /// as `EmptyWord`, and the words after it are left.
     pub fn next_word(&mut self) -> Result<&'a [u8], Unread>
         ensures answer { Gives result (next_word (left self.old)) }
         ensures left { left self.new ≡ next_left (left self.old) }
@@ -49,11 +53,12 @@ impl<'a> Words<'a> {
         Ok(word)
     }
 
-    // Whether every word has been read. Here None is the good answer, which no ok_or gives.
+    /// Whether every word has been read: else the answer is `TooManyWords`. It reads none.
     #[tactic(auto, using(crate::proofs::Splitting::not_ending))]
     pub fn finish(&self) -> Result<(), Unread>
         ensures { result ≡ ending (left self.now) }
     {
+        // None is the good answer, which no ok_or gives.
         match self.rest {
             None => Ok(()),
             Some(_) => Err(Unread::TooManyWords),

@@ -14,7 +14,7 @@ pub enum SealerName {
     Bench,
 }
 
-/// No sealer that is known here has that version.
+/// No sealer that is known here has that version (docs/sealers.md).
 #[derive(Clone, Copy, Debug, PartialEq, Eq)]
 pub struct NoSuchVersion;
 

@@ -84,6 +84,8 @@ fn time<C: Sealer>(rt: &HostRuntime, name: &str) -> anyhow::Result<()> {
     Ok(())
 }
 
+/// Times check of a full card of each suite beside opening its bodies, and prints a line for each
+/// (docs/cards.md).
 pub fn sealers(rt: &HostRuntime) -> anyhow::Result<()> {
     time::<Spoc64Sealer>(rt, "SpoC-64")?;
     time::<Spoc128Sealer>(rt, "SpoC-128")?;

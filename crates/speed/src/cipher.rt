@@ -65,6 +65,7 @@ fn time<const B: usize, S: Suite<B>>(
     Ok(())
 }
 
+/// Times seal and open under each suite, and prints a line for each length of message (docs/cipher.md).
 pub fn suites(rt: &HostRuntime) -> anyhow::Result<()> {
     time::<24, Spoc64>(rt, "SpoC-64", &mut [0; 24])?;
     time::<32, Spoc128>(rt, "SpoC-128", &mut [0; 32])?;

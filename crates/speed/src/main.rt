@@ -1,4 +1,5 @@
-// Times the permutations, the cipher and check. It prints figures only when an argument asks for them: `speed permutations`, `speed cipher`, `speed cards`.
+// Times the permutations, the cipher and check. It prints figures only when an argument asks for them:
+// `speed permutations`, `speed cipher`, `speed cards`.
 #![tactic(auto)]
 
 mod checks;

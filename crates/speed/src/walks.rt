@@ -5,14 +5,16 @@ use permutations::{Light192, Light256, Permutation};
 // How many calls are timed at once.
 const CALLS: u32 = 100_000;
 
-// The least times of a call, in nanoseconds.
+/// The least times of a call, in nanoseconds.
 #[derive(Clone, Copy)]
 pub struct Times {
+    /// Of forward, all steps.
     pub forward: u128,
+    /// Of back, all steps.
     pub back: u128,
 }
 
-// Times forward and then back, after which the state is as it was.
+/// Times forward and then back, after which the state is as it was: else that is an error.
 pub fn time<const B: usize, P: Permutation<B>>(
     rt: &HostRuntime,
     state: &mut [u8; B],
@@ -33,6 +35,7 @@ pub fn time<const B: usize, P: Permutation<B>>(
     })
 }
 
+/// Times both sLiSCP-light permutations, and prints a line for each.
 pub fn permutations(rt: &HostRuntime) -> anyhow::Result<()> {
     let Times { forward, back } = time::<24, Light192>(rt, &mut [0; 24])?;
     println!(rt; "192: forward {forward} ns, back {back} ns")?;

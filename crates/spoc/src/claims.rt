@@ -6,10 +6,12 @@ use crate::sealing::{open, seal};
 use crate::suite::Suite;
 use sealer::SealFault;
 
-/// Seals a message into `ciphertext` and `tag`, and opens into `out` what it sealed: a check of itself that a program can make.
+/// Seals a message into `ciphertext` and `tag`, and opens into `out` what it sealed: a check of itself that a
+/// program can make (docs/cipher.md).
 ///
-/// The first fault, of seal or then of open, is the answer. `ciphertext` and `tag` hold what `seal` leaves in them; `out` holds what
-/// `open` leaves, and stays where seal refuses. Where seal accepts and `out` has room for the message, `out` begins with it.
+/// The first fault, of seal or then of open, is the answer. `ciphertext` and `tag` hold what `seal` leaves in
+/// them; `out` holds what `open` leaves, and stays where seal refuses. Where seal accepts and `out` has room
+/// for the message, `out` begins with it.
 ///
 /// The clause `claims` is that of `seal`.
 pub fn seal_and_open<const B: usize, S: Suite<B>>(

@@ -7,11 +7,16 @@ use permutations::Bench;
 /// A message of eight bytes, sealed under the bench suite.
 #[derive(Clone, Copy)]
 pub struct BenchSealed {
+    /// The message, sealed.
     pub ciphertext: [u8; 8],
+    /// The tag, as long as the suite's rate.
     pub tag: [u8; 8],
 }
 
-/// Seals eight bytes 0x20 with eight bytes 0x10 as data under the bench suite, an example for pencil and paper (docs/cipher.md).
+/// Seals eight bytes 0x20 with eight bytes 0x10 as data under the bench suite, an example for pencil and
+/// paper (docs/cipher.md).
+///
+/// The clause `examples` has all bench examples of that page.
 pub fn bench_example() -> BenchSealed
     ensures ciphertext { result.ciphertext ≡ eight 0x21 }
     ensures tag { result.tag ≡ 0x1f ∷ replicate 7 0x3f }

@@ -20,11 +20,13 @@ const LAST: u8 = 0x80;
 // What follows a short block.
 const PAD: u8 = 0x80;
 
-// Whether a message goes in and its ciphertext comes out, or the other way round. An enum and no closure: the contract of the loop
-// says what comes out of each way, and matches on it.
+/// Whether a message goes in and its ciphertext comes out, or the other way round (docs/cipher.md). An enum
+/// and no closure: the contract of the loop says what comes out of each way, and matches on it.
 #[derive(Clone, Copy)]
 pub enum Way {
+    /// A message goes in, and its ciphertext comes out.
     Seal,
+    /// A ciphertext goes in, and its message comes out.
     Open,
 }
 
@@ -47,8 +49,9 @@ fn flag_of(last: bool) -> u8
     if last { LAST } else { 0 }
 }
 
-// The state of a suite's cipher, which blocks go into. A block is a slice of at most RATE bytes, as six contracts ask: a type for it
-// would be made at two calls and taken apart in all six. That a part is RATE bytes long is asked of unlike parts: a padded block, and a tag.
+// The state of a suite's cipher, which blocks go into. A block is a slice of at most RATE bytes, as six
+// contracts ask: a type for it would be made at two calls and taken apart in all six. That a part is RATE
+// bytes long is asked of unlike parts: a padded block, and a tag.
 #[derive(Drop)]
 pub(crate) struct Duplex<const B: usize, S> {
     pub(crate) state: [u8; B],
@@ -80,31 +83,36 @@ impl<const B: usize, S: Suite<B>> Duplex<B, S> {
     // As many bytes as there are masked places, or fewer, xored into the first of these.
     fn mask_in(&mut self, bytes: &[u8])
         requires { length bytes.now ≤ S.SuiteModel.plan.rate }
-        ensures { self.new.state ≡ xors self.old.state (put S.SuiteModel.plan.masked_places bytes.now (zero_mask S.Bijection.meaning)) }
+        ensures { self.new.state ≡ xors self.old.state
+            (put S.SuiteModel.plan.masked_places bytes.now (zero_mask S.Bijection.meaning)) }
     {
         for (place, byte) in S::masked_places().iter().zip(bytes) {
             self.state[*place] ^= *byte;
         }
     }
 
-    // A short block and 0x80 after it, xored into the masked places. The zeros that follow would change nothing: no padded copy is made.
-    // It is kept out of the loop's code, as xor_short.
+    // A short block and 0x80 after it, xored into the masked places. The zeros that follow would change
+    // nothing: no padded copy is made. It is kept out of the loop's code, as xor_short.
     #[inline(never)]
     fn mask_short(&mut self, block: &[u8])
         requires { length block.now < S.SuiteModel.plan.rate }
-        ensures { self.new.state ≡ xors self.old.state (put S.SuiteModel.plan.masked_places (padded S.SuiteModel.plan.rate block.now) (zero_mask S.Bijection.meaning)) }
+        ensures { self.new.state ≡ xors self.old.state
+            (put S.SuiteModel.plan.masked_places
+            (padded S.SuiteModel.plan.rate block.now) (zero_mask S.Bijection.meaning)) }
     {
         self.mask_in(block);
         let place = S::masked_places()[block.len()];
         self.state[place] ^= PAD;
     }
 
-    // A block, padded if it is short, xored into the masked places. All that a block goes through is inlined: the compiler
-    // then knows in each loop whether the block is full, and which way it goes.
+    // A block, padded if it is short, xored into the masked places. All that a block goes through is inlined:
+    // the compiler then knows in each loop whether the block is full, and which way it goes.
     #[inline(always)]
     fn mask_block(&mut self, block: &[u8])
         requires { length block.now ≤ S.SuiteModel.plan.rate }
-        ensures { self.new.state ≡ xors self.old.state (put S.SuiteModel.plan.masked_places (padded S.SuiteModel.plan.rate block.now) (zero_mask S.Bijection.meaning)) }
+        ensures { self.new.state ≡ xors self.old.state
+            (put S.SuiteModel.plan.masked_places
+            (padded S.SuiteModel.plan.rate block.now) (zero_mask S.Bijection.meaning)) }
     {
         if block.len() < S::RATE {
             self.mask_short(block);
@@ -116,7 +124,8 @@ impl<const B: usize, S: Suite<B>> Duplex<B, S> {
 
     // A byte xored into the first rate place.
     fn control_in(&mut self, control: u8)
-        ensures { self.new.state ≡ slice_set self.old.state (control_place S.SuiteModel.plan) (bit_xor (slice_index self.old.state (control_place S.SuiteModel.plan)) control) }
+        ensures { self.new.state ≡ slice_set self.old.state (control_place S.SuiteModel.plan)
+            (bit_xor (slice_index self.old.state (control_place S.SuiteModel.plan)) control) }
     {
         let place = S::rate_places()[0];
         self.state[place] ^= control;
@@ -126,7 +135,8 @@ impl<const B: usize, S: Suite<B>> Duplex<B, S> {
     #[inline(always)]
     fn absorb(&mut self, block: &[u8], control: u8)
         requires { length block.now ≤ S.SuiteModel.plan.rate }
-        ensures { self.new.state ≡ xors self.old.state (mask_with S.Bijection.meaning S.SuiteModel.plan control block.now) }
+        ensures { self.new.state ≡ xors self.old.state
+            (mask_with S.Bijection.meaning S.SuiteModel.plan control block.now) }
     {
         self.mask_block(block);
         self.control_in(control);
@@ -136,7 +146,8 @@ impl<const B: usize, S: Suite<B>> Duplex<B, S> {
     #[inline(always)]
     fn step(&mut self, block: &[u8], control: u8)
         requires { length block.now ≤ S.SuiteModel.plan.rate }
-        ensures { self.new.state ≡ S.Bijection.meaning.forward (xors self.old.state (mask_with S.Bijection.meaning S.SuiteModel.plan control block.now)) }
+        ensures { self.new.state ≡ S.Bijection.meaning.forward (xors self.old.state
+            (mask_with S.Bijection.meaning S.SuiteModel.plan control block.now)) }
     {
         self.absorb(block, control);
         self.forward();
@@ -144,7 +155,8 @@ impl<const B: usize, S: Suite<B>> Duplex<B, S> {
 
     // The zero mask goes in, and forward follows; `ends` says whether it is the only mask.
     fn first_step(&mut self, ends: bool)
-        ensures { self.new.state ≡ S.Bijection.meaning.forward (xors self.old.state (first_mask S.Bijection.meaning S.SuiteModel.plan ends)) }
+        ensures { self.new.state ≡ S.Bijection.meaning.forward (xors self.old.state
+            (first_mask S.Bijection.meaning S.SuiteModel.plan ends)) }
     {
         self.control_in(flag_of(ends));
         self.forward();
@@ -152,7 +164,9 @@ impl<const B: usize, S: Suite<B>> Duplex<B, S> {
 
     // Each block of the data goes in; `ends` says whether the last of them is the last of the feed.
     fn absorb_data(&mut self, data: &[u8], ends: bool)
-        ensures { self.new.state ≡ run S.Bijection.meaning self.old.state (ended_if ends S.SuiteModel.plan (masks S.Bijection.meaning S.SuiteModel.plan 0x20 «data».now)) }
+        ensures { self.new.state ≡ run S.Bijection.meaning self.old.state
+            (ended_if ends S.SuiteModel.plan
+            (masks S.Bijection.meaning S.SuiteModel.plan 0x20 «data».now)) }
     {
         for (i, block) in data.chunks(S::RATE).enumerate() {
             let last = i * S::RATE + block.len() == data.len();
@@ -163,14 +177,17 @@ impl<const B: usize, S: Suite<B>> Duplex<B, S> {
 
     // The state before the message, or its ciphertext: key, nonce, the zero mask and the data are in.
     pub(crate) fn begin(&mut self, key: &[u8; 16], nonce: &[u8; 16], data: &[u8], message: &[u8])
-        ensures { self.new.state ≡ at_message S.Bijection.meaning S.SuiteModel.plan (start S.Bijection.meaning S.SuiteModel.plan key.now nonce.now) «data».now message.now }
+        ensures { self.new.state ≡ at_message S.Bijection.meaning S.SuiteModel.plan
+            (start S.Bijection.meaning S.SuiteModel.plan key.now nonce.now)
+            «data».now message.now }
     {
         S::start(&mut self.state, key, nonce);
         self.first_step(data.is_empty() & message.is_empty());
         self.absorb_data(data, message.is_empty());
     }
 
-    // A block xored with as many places. Written by index: what goes through an iter_mut in a zip is lost to a proof.
+    // A block xored with as many places. Written by index: what goes through an iter_mut in a zip is lost to
+    // a proof.
     fn xor_places(&self, places: &[usize], block: &[u8], out: &mut [u8])
         requires inside { (i : ℕ) → i < length places.now → slice_index places.now i < B }
         requires all { length places.now ≡ length block.now }
@@ -213,7 +230,10 @@ impl<const B: usize, S: Suite<B>> Duplex<B, S> {
         requires fits { length block.now ≤ S.SuiteModel.plan.rate }
         requires room { length out.old ≡ length block.now }
         ensures out { out.new ≡ xors block.now (pick S.SuiteModel.plan.rate_places self.old.state) }
-        ensures state { self.new.state ≡ S.Bijection.meaning.forward (xors self.old.state (mask_with S.Bijection.meaning S.SuiteModel.plan control (plain_of way block.now (xors block.now (pick S.SuiteModel.plan.rate_places self.old.state))))) }
+        ensures state { self.new.state ≡ S.Bijection.meaning.forward (xors self.old.state
+            (mask_with S.Bijection.meaning S.SuiteModel.plan control
+            (plain_of way block.now
+            (xors block.now (pick S.SuiteModel.plan.rate_places self.old.state))))) }
     {
         self.xor_rate(block, out);
         match way {
@@ -226,8 +246,11 @@ impl<const B: usize, S: Suite<B>> Duplex<B, S> {
     #[inline(always)]
     pub(crate) fn crypt(&mut self, way: Way, input: &[u8], out: &mut [u8])
         requires { length input.now ≤ length out.old }
-        ensures state { self.new.state ≡ run S.Bijection.meaning self.old.state (masks_of way S.Bijection.meaning S.SuiteModel.plan self.old.state input.now) }
-        ensures out { out.new ≡ output_of way S.Bijection.meaning S.SuiteModel.plan self.old.state input.now ++ drop (length input.now) out.old }
+        ensures state { self.new.state ≡ run S.Bijection.meaning self.old.state
+            (masks_of way S.Bijection.meaning S.SuiteModel.plan self.old.state input.now) }
+        ensures out { out.new ≡
+            output_of way S.Bijection.meaning S.SuiteModel.plan self.old.state input.now
+            ++ drop (length input.now) out.old }
     {
         for (i, block) in input.chunks(S::RATE).enumerate() {
             // By its place: a proof forgets what is written through chunks_mut in a zip.
@@ -238,10 +261,12 @@ impl<const B: usize, S: Suite<B>> Duplex<B, S> {
         }
     }
 
-    // Each block of a ciphertext is opened at the front of the scratch, one over the other: the state goes as it does in crypt.
+    // Each block of a ciphertext is opened at the front of the scratch, one over the other: the state goes as
+    // it does in crypt.
     #[inline(always)]
     pub(crate) fn open_over(&mut self, ciphertext: &[u8], scratch: &mut [u8; 16])
-        ensures { self.new.state ≡ run S.Bijection.meaning self.old.state (opened_masks S.Bijection.meaning S.SuiteModel.plan self.old.state ciphertext.now) }
+        ensures { self.new.state ≡ run S.Bijection.meaning self.old.state
+            (opened_masks S.Bijection.meaning S.SuiteModel.plan self.old.state ciphertext.now) }
     {
         for (i, block) in ciphertext.chunks(S::RATE).enumerate() {
             let end = i * S::RATE + block.len();
@@ -272,8 +297,9 @@ impl<const B: usize, S: Suite<B>> Duplex<B, S> {
         difference == 0
     }
 
-    // The tag, and then zeros in the state. Each end is a call: were it inlined into seal, where the state is a local that nobody reads
-    // again, the compiler would leave out the zeros. A call that did nothing else would go too; this one writes the tag.
+    // The tag, and then zeros in the state. Each end is a call: were it inlined into seal, where the state is
+    // a local that nobody reads again, the compiler would leave out the zeros. A call that did nothing else
+    // would go too; this one writes the tag.
     #[inline(never)]
     pub(crate) fn finish(&mut self, tag: &mut [u8])
         requires { length tag.old ≡ S.SuiteModel.plan.rate }
@@ -288,7 +314,8 @@ impl<const B: usize, S: Suite<B>> Duplex<B, S> {
     #[inline(never)]
     pub(crate) fn verify(&mut self, tag: &[u8]) -> bool
         requires { length tag.now ≡ S.SuiteModel.plan.rate }
-        ensures agrees { result ≡ bytes_eq (pick S.SuiteModel.plan.masked_places self.old.state) tag.now }
+        ensures agrees { result ≡
+            bytes_eq (pick S.SuiteModel.plan.masked_places self.old.state) tag.now }
         ensures wiped { self.new.state ≡ replicate B 0 }
     {
         let agrees = self.tag_agrees(tag);

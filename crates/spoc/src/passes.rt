@@ -6,8 +6,9 @@ use crate::mode::{Duplex, Way};
 use crate::suite::Suite;
 use sealer::{SCRATCH_BYTES, SealFault};
 
-// What seal, open and test do past their questions. Each begins in the state that it is handed, whatever that holds, and leaves zeros in
-// it, whichever way it ends. They are inlined: of a state that is a local the compiler knows that no buffer is part of it.
+// What seal, open and test do past their questions. Each begins in the state that it is handed, whatever that
+// holds, and leaves zeros in it, whichever way it ends. They are inlined: of a state that is a local the
+// compiler knows that no buffer is part of it.
 impl<const B: usize, S: Suite<B>> Duplex<B, S> {
     // Seals a message with its data.
     #[inline(always)]
@@ -63,7 +64,8 @@ impl<const B: usize, S: Suite<B>> Duplex<B, S> {
         Err(SealFault::TagMismatch)
     }
 
-    // Opens a ciphertext one block over the other, and tells whether the tag agrees; of the blocks zeros are left.
+    // Opens a ciphertext one block over the other, and tells whether the tag agrees; of the blocks zeros are
+    // left.
     #[inline(always)]
     pub(crate) fn test(
         &mut self,

@@ -8,14 +8,16 @@ use crate::mode::Duplex;
 use crate::suite::Suite;
 use sealer::{SCRATCH_BYTES, SealFault, ask_lengths};
 
-/// Seals a message with its data under a suite (docs/cipher.md): the ciphertext goes to the front of `out`, and the tag into `tag`.
+/// Seals a message with its data under a suite (docs/cipher.md): the ciphertext goes to the front of `out`,
+/// and the tag into `tag`.
 ///
-/// Key and nonce are to have 16 bytes (1, 2), data and message at most 65,535 each (3), `out` at least as many as the message (4),
-/// `tag` exactly the suite's rate (5). After a no both buffers are as they were; bytes of `out` beyond the message's length always
-/// stay.
+/// Key and nonce are to have 16 bytes (1, 2), data and message at most 65,535 each (3), `out` at least as
+/// many as the message (4), `tag` exactly the suite's rate (5). After a no both buffers are as they were;
+/// bytes of `out` beyond the message's length always stay.
 ///
-/// The clause `claims` says of every suite that different data or messages have different feeds, that one mask, and the key, tell the
-/// end state, and what opens. It stands here because every program that seals makes this call.
+/// The clause `claims` says of every suite that different data or messages have different feeds, that one
+/// mask, and the key, tell the end state, and what opens. It stands here because every program that seals
+/// makes this call.
 pub fn seal<const B: usize, S: Suite<B>>(
     key: &[u8],
     nonce: &[u8],
@@ -38,10 +40,12 @@ pub fn seal<const B: usize, S: Suite<B>>(
     Ok(())
 }
 
-/// Opens a ciphertext with its data and tag under a suite (docs/cipher.md): the message goes to the front of `out`.
+/// Opens a ciphertext with its data and tag under a suite (docs/cipher.md): the message goes to the front of
+/// `out`.
 ///
-/// It asks what `seal` asks, of the ciphertext in the message's place, and then whether the tag agrees (6). After a no to 1 to 5
-/// `out` is as it was; after 6 its first bytes, as many as the ciphertext has, are zero; bytes beyond them always stay.
+/// It asks what `seal` asks, of the ciphertext in the message's place, and then whether the tag agrees (6).
+/// After a no to 1 to 5 `out` is as it was; after 6 its first bytes, as many as the ciphertext has, are zero;
+/// bytes beyond them always stay.
 pub fn open<const B: usize, S: Suite<B>>(
     key: &[u8],
     nonce: &[u8],
@@ -69,10 +73,11 @@ pub fn open<const B: usize, S: Suite<B>>(
     duplex.open(key, nonce, data, ciphertext, out, tag)
 }
 
-/// Answers what `open` would, opening one block over the other in 16 bytes of scratch, which are zero then (docs/sealers.md).
+/// Answers what `open` would, opening one block over the other in 16 bytes of scratch, which are zero then
+/// (docs/sealers.md).
 ///
-/// Its question 4 is whether the scratch has 16 bytes or more. After a no to 1 to 5 the scratch is as it was; after 6 and after
-/// success its first 16 bytes are zero. Bytes beyond them always stay.
+/// Its question 4 is whether the scratch has 16 bytes or more. After a no to 1 to 5 the scratch is as it was;
+/// after 6 and after success its first 16 bytes are zero. Bytes beyond them always stay.
 pub fn test<const B: usize, S: Suite<B>>(
     key: &[u8],
     nonce: &[u8],

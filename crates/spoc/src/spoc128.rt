@@ -6,7 +6,7 @@ use crate::loading::load_part;
 use crate::suite::{Suite, SuiteModel};
 use permutations::Light256;
 
-// SpoC-128 stands on sLiSCP-light-[256].
+/// SpoC-128 stands on sLiSCP-light-[256]: version 2, states of 32 bytes, a rate of 16 (docs/cipher.md).
 pub type Spoc128 = Light256;
 
 // Subblocks 0 and 2.

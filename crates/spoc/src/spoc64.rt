@@ -9,7 +9,7 @@ use crate::loading::load_part;
 use crate::suite::{Suite, SuiteModel};
 use permutations::{Light192, Permutation};
 
-// SpoC-64 stands on sLiSCP-light-[192].
+/// SpoC-64 stands on sLiSCP-light-[192]: version 1, states of 24 bytes, a rate of 8 (docs/cipher.md).
 pub type Spoc64 = Light192;
 
 // The first four bytes of subblocks 0 and 2.
@@ -18,7 +18,8 @@ const RATE_PLACES: [usize; 8] = [0, 1, 2, 3, 12, 13, 14, 15];
 // The first four bytes of subblocks 1 and 3.
 const MASKED_PLACES: [usize; 8] = [6, 7, 8, 9, 18, 19, 20, 21];
 
-// Key and the first half of the nonce, before forward: a subblock is four bytes of the nonce and two of the key, or six of the key.
+// Key and the first half of the nonce, before forward: a subblock is four bytes of the nonce and two of the
+// key, or six of the key.
 fn load_state(state: &mut [u8; 24], key: &[u8; 16], nonce: &[u8; 16])
     ensures { state.new ≡ loaded (take 8 key.now) (drop 8 key.now) (take 8 nonce.now) }
 {

@@ -6,7 +6,8 @@ use sealer::{SealFault, Sealer};
 use spoc::{Spoc64, Spoc128, Suite, open, seal, test};
 use std::marker::PhantomData;
 
-/// SpoC over a suite on states of B bytes, as a sealer of cards: its version is the suite's and its width the suite's rate.
+/// SpoC over a suite on states of B bytes, as a sealer of cards (docs/cipher.md): its version is the suite's
+/// and its width the suite's rate.
 ///
 /// No value of it is made: writer and reader take it as a type.
 #[derive(Drop)]
@@ -68,7 +69,8 @@ impl<const B: usize, S: Suite<B>> Sealer for Spoc<B, S> {
         test::<B, S>(key, nonce, data, ciphertext, scratch, tag)
     }
 
-    ghost laws = { spoc_laws S.Bijection.meaning S.SuiteModel.plan S.SuiteModel.sound S.Bijection.bijective };
+    ghost laws = { spoc_laws S.Bijection.meaning S.SuiteModel.plan
+        S.SuiteModel.sound S.Bijection.bijective };
 
     ghost version_is = { S.Suite.version_is };
 

@@ -6,6 +6,9 @@ use std::io::{ErrorKind, Read};
 
 /// Reads until the buffer is full or the source has ended, and answers how many bytes it read to the buffer's
 /// front.
+///
+/// A read that is interrupted is tried again; any other error is the answer, and what was read until then is
+/// gone from the source.
 pub fn read_front<R: Read>(source: &mut R, buffer: &mut [u8]) -> io::Result<usize>
     ensures within { IfOk result (λ n. n ≤ length buffer.new) }
     ensures ok { IfOk result (λ n. ReadsFront (length buffer.old)

@@ -7,8 +7,8 @@ use std::io;
 use std::io::{ErrorKind, Read, Write};
 use std::test::Fail;
 
-// A source and a writer that give and take at most two bytes at a time, are interrupted before each call that goes
-// well, and fail once they have moved so many bytes.
+// A source and a writer that give and take at most two bytes at a time, are interrupted before each call that
+// goes well, and fail once they have moved so many bytes.
 #[derive(Drop)]
 struct Slow {
     bytes: Vec<u8>,

@@ -9,6 +9,9 @@ use std::io::{ErrorKind, Write};
 pub const LINE_BYTES: usize = 128;
 
 /// Writes all of the bytes or, where that fails, a front of them.
+///
+/// A write that is interrupted is tried again; one that takes no byte is the error `WriteZero`, and any other
+/// error is the answer.
 pub fn write_bytes<W: Write>(out: &mut W, bytes: &[u8]) -> io::Result<()>
     ensures { Writes result (W.contents out.old) (W.contents out.new) bytes.now }
 {

@@ -3,8 +3,10 @@ ghost use Rattle.std.specs.Prelude.{◌≡◌, ◌+◌, ◌*◌, ◌≤◌};
 use cards::CardFault;
 use std::marker::PhantomData;
 
-// A writer of one card: the sealer, the key and the header, how many sheets are written, and where the next record begins.
-// It can't be copied, and close takes it.
+/// A writer of one card (docs/cards.md): the sealer, the key and the header, how many sheets are written, and
+/// where the next record begins.
+///
+/// The medium is no part of it: each call is handed one. It can't be copied, and `close` takes it.
 #[derive(Drop)]
 pub struct Writer<C> {
     pub(crate) sealer: PhantomData<C>,
@@ -16,10 +18,13 @@ pub struct Writer<C> {
     ghost bound: { place ≤ 13 + count * 4121 },
 }
 
-// A writer whose close was refused, and why.
+/// A writer whose close was refused, and why (docs/cards.md).
 #[derive(Drop)]
 pub struct Unclosed<C> {
+    /// The writer as it was before, so that it can be closed on a medium that is long enough.
     pub writer: Writer<C>,
+    /// The refusal: 9 of layer 3; its record is how many sheets were accepted, and its place where the end
+    /// record would begin.
     pub fault: CardFault,
 }
 
