@@ -1,4 +1,4 @@
-// Tests of SpoC: the published vectors of SpoC-64 and SpoC-128, and the lengths at which seal and open refuse.
+// Tests of SpoC and its permutations: published first steps and vectors, and lengths that seal and open refuse.
 #![tactic(auto)]
 
 #[cfg(test)]
@@ -177,6 +177,26 @@ mod tests {
         assert_eq!(rt;
             spoc::seal::<32, Bench>(&KEY, &NONCE, &[], &message, &mut out, &mut tag),
             Err(SealFault::TooLong)
+        );
+    }
+
+    #[test]
+    fn the_first_steps_are_the_published_ones(rt: HostRuntime) {
+        let first = permutations::first_steps();
+        assert_eq!(rt;
+            first.light192,
+            [
+                0xFF, 0xFF, 0x9A, 0xFF, 0xFF, 0xFC, 0x00, 0x00, 0x64, 0x00, 0x00, 0xD5, 0xFF, 0xFF,
+                0x9B, 0xFF, 0xFF, 0xFC, 0x00, 0x00, 0x65, 0x00, 0x00, 0xF4,
+            ]
+        );
+        assert_eq!(rt;
+            first.light256,
+            [
+                0x00, 0x00, 0x0C, 0x6F, 0x00, 0x00, 0x04, 0x26, 0xFF, 0xFF, 0xE3, 0xC3, 0xFF, 0xFF,
+                0xF3, 0x48, 0x00, 0x00, 0x1C, 0x3C, 0x00, 0x00, 0x0C, 0x2C, 0xFF, 0xFF, 0xF3, 0x90,
+                0xFF, 0xFF, 0xFB, 0x2E,
+            ]
         );
     }
 
