@@ -37,7 +37,7 @@ closed_is m = ap (λ (z : List ℕ). bare_card ++ z) (drop-drop 17 13 m)
 
 -- start and close, and no append between them
 pub bare_gives : Gives bench_cipher bench_key bench_number [] bare_card
-bare_gives m o long =
+bare_gives m long =
     let e = close_is m long in
     record {
       writer = writer m;
