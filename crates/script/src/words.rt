@@ -45,7 +45,11 @@ impl<'a> Words<'a> {
         ensures answer { Gives result (next_word (left self.old)) }
         ensures left { left self.new ≡ next_left (left self.old) }
     {
-        let (word, rest) = split_word(self.rest.ok_or(Unread::TooFewWords)?);
+        // No ok_or with `?`: the compiler then takes the slice apart, and a word takes half as long again.
+        let Some(line) = self.rest else {
+            return Err(Unread::TooFewWords);
+        };
+        let (word, rest) = split_word(line);
         self.rest = rest;
         if word.is_empty() {
             return Err(Unread::EmptyWord);
