@@ -162,7 +162,10 @@ impl<const B: usize, S: Suite<B>> Duplex<B, S> {
         self.forward();
     }
 
-    // Each block of the data goes in; `ends` says whether the last of them is the last of the feed.
+    // Each block of the data goes in; `ends` says whether the last of them is the last of the feed. This and
+    // `begin` are inlined, as what follows them is: of a state that is handed on by reference the compiler thinks
+    // that the data may be part of it, and long data under bench took a quarter longer.
+    #[inline(always)]
     fn absorb_data(&mut self, data: &[u8], ends: bool)
         ensures { self.new.state ≡ run S.Bijection.meaning self.old.state
             (ended_if ends S.SuiteModel.plan
@@ -176,6 +179,7 @@ impl<const B: usize, S: Suite<B>> Duplex<B, S> {
     }
 
     // The state before the message, or its ciphertext: key, nonce, the zero mask and the data are in.
+    #[inline(always)]
     pub(crate) fn begin(&mut self, key: &[u8; 16], nonce: &[u8; 16], data: &[u8], message: &[u8])
         ensures { self.new.state ≡ at_message S.Bijection.meaning S.SuiteModel.plan
             (start S.Bijection.meaning S.SuiteModel.plan key.now nonce.now)
