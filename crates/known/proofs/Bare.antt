@@ -15,7 +15,7 @@ use Rattle.writer.specs.declared.Writer.{Writer}
 use Rattle.known.specs.Known.{bench_cipher, bench_key, bench_number, bare_card, bare_answer, bare_medium, OneByte}
 
 -- the plain writer after an accepted start
-abbrev writer : List ℕ → Plain
+abbrev pub writer : List ℕ → Plain
 writer m = started bench_cipher bench_key bench_number m
 
 -- start leaves the medium as long as it was
@@ -25,13 +25,13 @@ started_length m h = length-append (take 13 bare_card) (drop 13 m) ∙ ap (λ i.
 pub start_is : (m : List ℕ) → 30 ≤ length m → start bench_cipher bench_key bench_number m ≡ Ok (writer m)
 start_is m h = ap (λ t. cond t (Ok (writer m)) (Err (fault 9 3 0 0))) (le-leb 30 (length m) h)
 
-close_is : (m : List ℕ) → 30 ≤ length m → close_answer bench_cipher (writer m) ≡ Ok 30
+pub close_is : (m : List ℕ) → 30 ≤ length m → close_answer bench_cipher (writer m) ≡ Ok 30
 close_is m h =
     ap (λ n. close_questions 8 0 13 n) (started_length m (omega arith))
     ∙ ap (λ t. cond t (Ok 30) (Err (fault 9 3 0 13))) (le-leb 30 (length m) h)
 
 -- what close leaves
-closed_is : (m : List ℕ) → closed_medium bench_cipher (writer m) ≡ bare_card ++ drop 30 m
+pub closed_is : (m : List ℕ) → closed_medium bench_cipher (writer m) ≡ bare_card ++ drop 30 m
 unfolding forward xors
 closed_is m = ap (λ (z : List ℕ). bare_card ++ z) (drop-drop 17 13 m)
 
@@ -53,10 +53,10 @@ pub one_byte : (n : ℕ) → 13 ≤ n → OneByte n (append_questions 8 0 13 1 n
 one_byte n h m c e b long = ap (λ k. append_questions 8 0 13 1 k) (started_length m (omega arith) ∙ long)
 
 -- what start answered tells how long the medium is
-abbrev starting : Bool → List ℕ → Result Plain Fault
+abbrev pub starting : Bool → List ℕ → Result Plain Fault
 starting b m = cond b (Ok (writer m)) (Err (fault 9 3 0 0))
 
-start_accepted : (b : Bool) (x : Writer (Spoc 32 Bench)) (now m : List ℕ) → Starts (Ok x) now (starting b m) → (b ≡ true) × Stands x now (writer m)
+pub start_accepted : (b : Bool) (x : Writer (Spoc 32 Bench)) (now m : List ℕ) → Starts (Ok x) now (starting b m) → (b ≡ true) × Stands x now (writer m)
 start_accepted true x now m h = (refl, h)
 start_accepted false x now m h = absurd h
 
